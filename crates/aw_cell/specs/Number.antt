@@ -1,0 +1,6 @@
+-- The range of a NUMBER, in ten-thousandths.
+use Rattle.std.specs.Prelude.{ℤ, pos, negsuc, ◌≤ℤ◌}
+
+-- eighteen digits, four of them behind the point
+abbrev pub IsInRange : ℤ → Type 0
+IsInRange units = (negsuc 999999999999999998 ≤ℤ units) × (units ≤ℤ pos 999999999999999999)
