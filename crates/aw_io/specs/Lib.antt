@@ -1,0 +1,9 @@
+pub mod Faults
+pub mod Known
+pub mod MemSink
+pub mod MemSource
+pub mod Sink
+pub mod Source
+pub mod StdSink
+pub mod StdSource
+pub mod SureSink

@@ -1,0 +1,18 @@
+-- A writer of std as a sink: what one `put` did to the bytes that the writer holds, where std knows
+-- them.
+use Rattle.std.specs.Prelude.{ℕ, List, take, Option}
+use Rattle.std.specs.Io.KnownBytes.{Appends}
+use Rattle.aw_io.specs.declared.sink.Gave.{Gave}
+use Rattle.aw_io.specs.declared.sink.Gave.TheVariants.{Put, Failed}
+use Rattle.aw_io.specs.declared.std_sink.StdSink.{StdSink}
+
+abbrev pub writer_of : {W : Type 0} → StdSink W → W
+writer_of sink = sink.writer
+
+abbrev pub faults_of : {W : Type 0} → StdSink W → ℕ
+faults_of sink = sink.faults
+
+-- the bytes that went are those that the writer gained; of a failure nothing is said
+abbrev pub Writes : Gave → Option (List ℕ) → Option (List ℕ) → List ℕ → Type 0
+Writes (Put n) before now bytes = Appends before now (take n bytes)
+Writes Failed before now bytes = Unit {0}

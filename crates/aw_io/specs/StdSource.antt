@@ -1,0 +1,19 @@
+-- A reader of std as a source: what one `take` did with the bytes that the reader has left, where
+-- std knows them.
+use Rattle.std.specs.Prelude.{ℕ, List, take, Option}
+use Rattle.std.specs.Io.KnownBytes.{Consumes, IsAtEnd, Keeps}
+use Rattle.aw_io.specs.declared.source.Took.{Took}
+use Rattle.aw_io.specs.declared.source.Took.TheVariants.{Got, End, Failed}
+use Rattle.aw_io.specs.declared.std_source.StdSource.{StdSource}
+
+abbrev pub reader_of : {R : Type 0} → StdSource R → R
+reader_of source = source.reader
+
+abbrev pub faults_of : {R : Type 0} → StdSource R → ℕ
+faults_of source = source.faults
+
+-- the bytes that came are those that the reader lost, and at the end it has none
+abbrev pub Reads : Took → Option (List ℕ) → Option (List ℕ) → List ℕ → Type 0
+Reads (Got n) before now buffer = Consumes before now (take n buffer)
+Reads End before now buffer = IsAtEnd now
+Reads Failed before now buffer = Keeps before now

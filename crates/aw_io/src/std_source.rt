@@ -1,0 +1,50 @@
+ghost use Rattle.std.specs.Prelude.{◌≡◌, ◌<◌, ◌≤◌, None, length};
+ghost use Rattle.aw_io.specs.Faults.{Rose};
+ghost use Rattle.aw_io.specs.Source.{Takes};
+ghost use Rattle.aw_io.specs.StdSource.{Reads, reader_of, faults_of};
+
+use crate::source::{Source, Took};
+use std::io::Read;
+
+/// A reader of std as a source. It doesn't tell what is left. A read that fails, interrupted ones
+/// included, counts as a fault, and a reader that gives nothing is at its end.
+#[derive(Drop)]
+pub struct StdSource<R> {
+    reader: R,
+    faults: u64,
+}
+
+impl<R: Read + Drop> StdSource<R> {
+    /// A source with this reader and no fault yet.
+    pub fn new(reader: R) -> StdSource<R>
+        ensures faults { faults_of result ≡ 0 }
+        ensures reader { reader_of result ≡ reader }
+    {
+        StdSource { reader, faults: 0 }
+    }
+}
+
+impl<R: Read + Drop> Source for StdSource<R> {
+    ghost left = { λ _. None };
+
+    ghost faults = { faults_of };
+
+    fn take(&mut self, into: &mut [u8]) -> Took
+        requires { 0 < length into.old }
+        ensures taken { Takes result None None into.new }
+        ensures later { faults_of self.old ≤ faults_of self.new }
+        ensures cause { result ≡ Took.Failed → Rose (faults_of self.old) (faults_of self.new) }
+
+        // Where std knows what the reader has left, these are its bytes.
+        ensures reads { Reads result (R.remaining (reader_of self.old)) (R.remaining (reader_of self.new)) into.new }
+    {
+        match self.reader.read(into) {
+            Ok(0) => Took::End,
+            Ok(count) => Took::Got(count),
+            Err(_) => {
+                self.faults = self.faults.saturating_add(1);
+                Took::Failed
+            }
+        }
+    }
+}
