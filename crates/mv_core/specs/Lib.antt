@@ -1,0 +1,10 @@
+pub mod Generations
+pub mod Owners
+pub mod Workspace
+pub mod Integers
+pub mod SharedStep
+pub mod GenerationLaws
+pub mod StandingLaws
+pub mod Applying
+pub mod Refusals
+pub mod OwnerLaws
