@@ -1,0 +1,3 @@
+mod Integers
+mod Texts
+pub mod Mapping

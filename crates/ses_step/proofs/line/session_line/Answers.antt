@@ -1,0 +1,14 @@
+use Rattle.std.specs.Prelude.{take, drop}
+use Rattle.std.specs.List.{prefix_len}
+use Rattle.std.proofs.lemmas.Bool.{and_parts}
+use Rattle.ses_step.specs.Words.{is_session_name, is_word_byte}
+use Rattle.ses_step.specs.Lines.{begins_with_colon}
+use Rattle.ses_step.proofs.Texts.{is_text-session_name}
+use Rattle.ses_step.proofs.line.session_line.Goals as goal
+
+pub text_of-name-requires : goal.text_of-name-requires
+text_of-name-requires c =
+    let text = c.args.text.now in
+    let at = prefix_len is_word_byte text in
+    rw c.word_bytes_in_front-end.ensures
+    (is_text-session_name (take at text) (and_parts (is_session_name (take at text)) (begins_with_colon (drop at text)) c.requires).0)

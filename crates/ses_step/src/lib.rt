@@ -1,0 +1,14 @@
+//! One line of a script, and what it does to one session. It works on the session's own values and
+//! knows neither the other sessions nor the shared state but by its entries and replies.
+#![tactic(auto)]
+
+mod answer;
+mod line;
+mod session;
+mod word;
+
+pub use answer::{Answer, Detail, Refusal, append_line};
+pub use line::{Command, Line, read_line};
+pub use session::{Begun, Session, View, name_at};
+pub use std::alloc::AllocError as NoMemory;
+pub use word::{find_word, is_same_word};

@@ -1,0 +1,378 @@
+ghost use Rattle.std.specs.Prelude.{◌≡◌, IfOk, IsTrue, map};
+ghost use Rattle.std.specs.List.{list_all, prefix_len};
+ghost use Rattle.aw_cell.specs.Text.{is_text};
+ghost use Rattle.ses_step.specs.Words.{is_blank, is_digit, is_word_byte};
+ghost use Rattle.ses_step.specs.Lines as spec;
+ghost use Rattle.ses_step.specs.Lines.{line_form};
+
+use crate::word::{
+    before_comment, is_blank, is_name, is_same_word, is_session_name, is_word_byte, words,
+};
+use aw_cell::Text;
+use std::alloc::{AllocError, Global};
+
+/// What a session asks for in a line (docs/LANGUAGE.md, "Statements"). Names stand as they were
+/// written, and may be undefined.
+#[derive(Clone, Copy, PartialEq, Eq)]
+pub enum Command {
+    /// `AW ATTACH MULTI`
+    Attach,
+    /// `ACQUIRE name`
+    Acquire(Text),
+    /// `name = digits`, with a value from 0 to 2147483647.
+    Assign { name: Text, value: i32 },
+    /// `UPDATE`
+    Update,
+    /// `COMMIT`
+    Commit,
+    /// `SHOW name`
+    Show(Text),
+}
+
+/// What a line of a script is (docs/LANGUAGE.md, "Statements").
+#[derive(Clone, Copy, PartialEq, Eq)]
+pub enum Line {
+    /// Passed over: nothing, blanks or a comment.
+    Blank,
+    /// Of no form, and under no session's name.
+    Malformed,
+    /// Defines an INTEGER variable of this name.
+    Definition(Text),
+    /// Under the name of a session; without a command where the rest is of no form.
+    Session {
+        name: Text,
+        command: Option<Command>,
+    },
+}
+
+/// The longest line that is read, in bytes.
+const LONGEST_LINE: usize = 4096;
+
+fn is_line_byte(byte: u8) -> bool
+    ensures { result ≡ spec.is_line_byte byte }
+{
+    byte == b'\t' || (b' ' <= byte && byte <= b'~')
+}
+
+fn are_line_bytes(line: &[u8]) -> bool
+    ensures { result ≡ list_all spec.is_line_byte line.now }
+{
+    line.iter().all(|byte| is_line_byte(*byte))
+}
+
+fn keeps_form(line: &[u8]) -> bool
+    ensures { result ≡ spec.keeps_form line.now }
+{
+    line.len() <= LONGEST_LINE && are_line_bytes(line)
+}
+
+fn blanks_in_front(text: &[u8]) -> usize
+    ensures { result ≡ prefix_len is_blank text.now }
+{
+    text.iter().take_while(|byte| is_blank(**byte)).count()
+}
+
+fn after_blanks(line: &[u8]) -> &[u8]
+    ensures { result.now ≡ spec.after_blanks line.now }
+{
+    &line[blanks_in_front(line)..]
+}
+
+fn word_bytes_in_front(text: &[u8]) -> usize
+    ensures { result ≡ prefix_len is_word_byte text.now }
+{
+    text.iter().take_while(|byte| is_word_byte(**byte)).count()
+}
+
+fn is_passed_over(text: &[u8]) -> bool
+    ensures { result ≡ spec.is_passed_over text.now }
+{
+    match text.first() {
+        Some(byte) => *byte == b'"',
+        None => true,
+    }
+}
+
+fn begins_with_colon(text: &[u8]) -> bool
+    ensures { result ≡ spec.begins_with_colon text.now }
+{
+    match text.first() {
+        Some(byte) => *byte == b':',
+        None => false,
+    }
+}
+
+fn name_in(word: &[u8]) -> Option<Text>
+    ensures { result ≡ spec.name_in word.now }
+{
+    Text::of(word)
+}
+
+/// A word as the text that it is.
+fn text_of(word: &[u8]) -> Text
+    requires { IsTrue (is_text word.now) }
+    ensures { result ≡ word.now }
+{
+    Text::of(word).unwrap()
+}
+
+fn are_digits(word: &[u8]) -> bool
+    ensures { result ≡ list_all is_digit word.now }
+{
+    word.iter().all(|byte| byte.is_ascii_digit())
+}
+
+fn integer_of(digits: &[u8]) -> Option<i32>
+    requires { IsTrue (list_all is_digit digits.now) }
+    ensures { result ≡ spec.integer_in digits.now }
+{
+    str::from_utf8(digits).ok()?.parse().ok()
+}
+
+fn integer_in(word: &[u8]) -> Option<i32>
+    ensures { result ≡ spec.integer_in word.now }
+{
+    if are_digits(word) {
+        integer_of(word)
+    } else {
+        None
+    }
+}
+
+fn one_word(word: &[u8]) -> Option<Command>
+    ensures { result ≡ spec.one_word word.now }
+{
+    if is_same_word(word, b"UPDATE") {
+        Some(Command::Update)
+    } else if is_same_word(word, b"COMMIT") {
+        Some(Command::Commit)
+    } else {
+        None
+    }
+}
+
+fn two_words(first: &[u8], second: &[u8]) -> Option<Command>
+    ensures { result ≡ spec.two_words first.now second.now }
+{
+    if is_same_word(first, b"ACQUIRE") {
+        name_in(second).map(Command::Acquire)
+    } else if is_same_word(first, b"SHOW") {
+        name_in(second).map(Command::Show)
+    } else {
+        None
+    }
+}
+
+fn assignment(target: &[u8], number: &[u8]) -> Option<Command>
+    ensures { result ≡ spec.assignment target.now number.now }
+{
+    let name = name_in(target)?;
+    let value = integer_in(number)?;
+    Some(Command::Assign { name, value })
+}
+
+fn is_attach(first: &[u8], second: &[u8], third: &[u8]) -> bool
+    ensures { result ≡ spec.is_attach first.now second.now third.now }
+{
+    is_same_word(first, b"AW") && is_same_word(second, b"ATTACH") && is_same_word(third, b"MULTI")
+}
+
+fn three_words(first: &[u8], second: &[u8], third: &[u8]) -> Option<Command>
+    ensures { result ≡ spec.three_words first.now second.now third.now }
+{
+    if is_same_word(second, b"=") {
+        assignment(first, third)
+    } else if is_attach(first, second, third) {
+        Some(Command::Attach)
+    } else {
+        None
+    }
+}
+
+fn command_in(words: &[&[u8]]) -> Option<Command>
+    ensures { result ≡ spec.command_in (map (λ word. word.now) words.now) }
+{
+    match words {
+        [word] => one_word(word),
+        [first, second] => two_words(first, second),
+        [first, second, third] => three_words(first, second, third),
+        _ => None,
+    }
+}
+
+fn is_definition(first: &[u8], name: &[u8], third: &[u8], fourth: &[u8]) -> bool
+    ensures { result ≡ spec.is_definition first.now name.now third.now fourth.now }
+{
+    is_same_word(first, b"DEFINE")
+        && is_name(name)
+        && is_same_word(third, b"VARIABLE")
+        && is_same_word(fourth, b"INTEGER")
+}
+
+fn definition(first: &[u8], name: &[u8], third: &[u8], fourth: &[u8]) -> Line
+    ensures { result ≡ spec.definition first.now name.now third.now fourth.now }
+{
+    if is_definition(first, name, third, fourth) {
+        Line::Definition(text_of(name))
+    } else {
+        Line::Malformed
+    }
+}
+
+fn definition_in(words: &[&[u8]]) -> Line
+    ensures { result ≡ spec.definition_in (map (λ word. word.now) words.now) }
+{
+    match words {
+        [first, name, third, fourth] => definition(first, name, third, fourth),
+        _ => Line::Malformed,
+    }
+}
+
+fn has_prefix(text: &[u8]) -> bool
+    ensures { result ≡ spec.has_prefix text.now }
+{
+    let end = word_bytes_in_front(text);
+    is_session_name(&text[..end]) && begins_with_colon(&text[end..])
+}
+
+fn session_line(alloc: Global, text: &[u8]) -> Result<Line, AllocError>
+    requires { IsTrue (spec.has_prefix text.now) }
+    ensures { IfOk result (λ read. read ≡ spec.session_line text.now) }
+{
+    let end = word_bytes_in_front(text);
+    let name = text_of(&text[..end]);
+    let words = words(alloc, before_comment(&text[end + 1..]))?;
+    Ok(Line::Session {
+        name,
+        command: command_in(&words),
+    })
+}
+
+fn definition_line(alloc: Global, text: &[u8]) -> Result<Line, AllocError>
+    ensures { IfOk result (λ read. read ≡ spec.definition_line text.now) }
+{
+    let words = words(alloc, before_comment(text))?;
+    Ok(definition_in(&words))
+}
+
+fn line_in(alloc: Global, text: &[u8]) -> Result<Line, AllocError>
+    ensures { IfOk result (λ read. read ≡ spec.line_in text.now) }
+{
+    if is_passed_over(text) {
+        Ok(Line::Blank)
+    } else if has_prefix(text) {
+        session_line(alloc, text)
+    } else {
+        definition_line(alloc, text)
+    }
+}
+
+/// What a line is (docs/LANGUAGE.md, "Statements"). The line is given without its LF and the CR
+/// before that. The only error is want of memory.
+pub fn read_line(alloc: Global, line: &[u8]) -> Result<Line, AllocError>
+    ensures { IfOk result (λ read. read ≡ line_form line.now) }
+{
+    if keeps_form(line) {
+        line_in(alloc, after_blanks(line))
+    } else {
+        Ok(Line::Malformed)
+    }
+}
+
+#[cfg(test)]
+mod tests {
+    use super::*;
+    use std::test::Fail;
+
+    fn text(bytes: &[u8]) -> Result<Text, Fail> {
+        Ok(Text::of(bytes).ok_or("no text")?)
+    }
+
+    fn session(name: &[u8], command: Option<Command>) -> Result<Line, Fail> {
+        let name = text(name)?;
+        Ok(Line::Session { name, command })
+    }
+
+    #[test]
+    fn reads_definitions(rt: HostRuntime) -> Result<(), Fail> {
+        let longest = b"a23456789_123456789_123456789_123456789_123456789_123456789_1234";
+        let blanks = [b' '; 4097];
+        let cases: [(&[u8], Line); 14] = [
+            (&blanks[..4096], Line::Blank),
+            (&blanks, Line::Malformed),
+            (b"", Line::Blank),
+            (b" \t ", Line::Blank),
+            (b"\t\" a: SHOW v", Line::Blank),
+            (
+                b"define v\tVariable INTEGER\" cells",
+                Line::Definition(text(b"v")?),
+            ),
+            (
+                b"DEFINE v.1_a VARIABLE INTEGER",
+                Line::Definition(text(b"v.1_a")?),
+            ),
+            (
+                b"DEFINE a23456789_123456789_123456789_123456789_123456789_123456789_1234 VARIABLE INTEGER",
+                Line::Definition(text(longest)?),
+            ),
+            (
+                b"DEFINE a23456789_123456789_123456789_123456789_123456789_123456789_12345 VARIABLE INTEGER",
+                Line::Malformed,
+            ),
+            (b"DEFINE 1v VARIABLE INTEGER", Line::Malformed),
+            (b"DEFINE Show VARIABLE INTEGER", Line::Malformed),
+            (b"DEFINE : VARIABLE INTEGER", Line::Malformed),
+            (b"DEFINE v VARIABLE INTEGER 7", Line::Malformed),
+            (b"v=7", Line::Malformed),
+        ];
+        for (line, form) in cases {
+            assert!(rt; read_line(rt.alloc(), line)? == form);
+        }
+        Ok(())
+    }
+
+    #[test]
+    fn reads_session_lines(rt: HostRuntime) -> Result<(), Fail> {
+        let v = text(b"v")?;
+        let cases: [(&[u8], Line); 16] = [
+            (b"a:", session(b"a", None)?),
+            (b"a:AW Attach MULTI", session(b"a", Some(Command::Attach))?),
+            (b"\tA: acquire v", session(b"A", Some(Command::Acquire(v)))?),
+            (
+                b"a: v = 2147483647",
+                session(
+                    b"a",
+                    Some(Command::Assign {
+                        name: v,
+                        value: 2147483647,
+                    }),
+                )?,
+            ),
+            (
+                b"a: v = 000000000007",
+                session(b"a", Some(Command::Assign { name: v, value: 7 }))?,
+            ),
+            (b"a: v = 2147483648", session(b"a", None)?),
+            (b"a: v = +7", session(b"a", None)?),
+            (b"a: v=7", session(b"a", None)?),
+            (b"a: SHOW v \" x", session(b"a", Some(Command::Show(v)))?),
+            (b"a: SHOW v x", session(b"a", None)?),
+            (
+                b"DEFINE: UPDATE",
+                session(b"DEFINE", Some(Command::Update))?,
+            ),
+            (
+                b"abcdefghijklmnop: COMMIT",
+                session(b"abcdefghijklmnop", Some(Command::Commit))?,
+            ),
+            (b"abcdefghijklmnopq: COMMIT", Line::Malformed),
+            (b"a.b: COMMIT", Line::Malformed),
+            (b"a : COMMIT", Line::Malformed),
+            (b"a: COMMIT\r", Line::Malformed),
+        ];
+        for (line, form) in cases {
+            assert!(rt; read_line(rt.alloc(), line)? == form);
+        }
+        Ok(())
+    }
+}

@@ -1,0 +1,539 @@
+ghost use Rattle.std.specs.Prelude.{◌≡◌, [], map, filter, slice_set, IfOk, IsErr, OnErr};
+ghost use Rattle.std.specs.Option.{option_map};
+ghost use Rattle.mv_core.specs.declared.entry.Reply.TheVariants.{NoMemory};
+ghost use Rattle.ses_step.specs.declared.line.Command.TheVariants.{Attach, Acquire, Assign, Update, Commit, Show};
+ghost use Rattle.ses_step.specs.Sessions as spec;
+
+use crate::answer::{Answer, Refusal};
+use crate::line::Command;
+use crate::word::find_word;
+use aw_cell::{Cell, Text};
+use aw_lists::List;
+use mv_core::{Change, Entry, Fresh, Reply};
+use std::alloc::{AllocError, Global};
+
+/// An object as an attached session sees it (docs/SHARING.md).
+#[derive(Clone, Copy, Debug, PartialEq, Eq)]
+pub struct View {
+    /// The object's place in order of definition, from 0.
+    pub object: u16,
+    /// The number of the generation that the session has.
+    pub number: u64,
+    /// The cell of that generation.
+    pub base: Cell,
+    /// The cell that a commit would make the next generation.
+    pub staged: Cell,
+    /// The cell that the session reads, and that its assignments write.
+    pub private: Cell,
+    /// Whether the session owns the object.
+    pub owned: bool,
+}
+
+/// What one session knows: its number, and how it sees each object (docs/SHARING.md).
+#[derive(Debug, PartialEq, Eq, Drop)]
+pub struct Session {
+    /// The session's number, by which the shared state knows it.
+    pub who: u32,
+    /// A view of each object in order of definition, once the session is attached.
+    pub views: Option<List<View>>,
+}
+
+/// What a command comes to.
+#[derive(Debug, PartialEq, Eq, Drop)]
+pub enum Begun {
+    /// The session answers by itself.
+    Said(Answer),
+    /// The session asks the shared state, and answers by the reply.
+    Ask(Entry),
+}
+
+impl View {
+    fn of(fresh: &Fresh) -> View
+        ensures { result ≡ spec.seen fresh.now }
+    {
+        View {
+            object: fresh.object,
+            number: fresh.number,
+            base: fresh.cell,
+            staged: fresh.cell,
+            private: fresh.cell,
+            owned: false,
+        }
+    }
+
+    fn is_staged(&self) -> bool
+        ensures { result ≡ spec.is_staged self.now }
+    {
+        self.owned && self.staged != self.base
+    }
+
+    fn change(&self) -> Change
+        ensures { result ≡ spec.change_of_view self.now }
+    {
+        Change {
+            object: self.object,
+            cell: self.staged,
+        }
+    }
+
+    fn update(&mut self)
+        ensures { self.new ≡ spec.updated self.old }
+    {
+        if self.owned {
+            self.staged = self.private;
+        }
+    }
+
+    fn commit(&mut self)
+        ensures { self.new ≡ spec.committed_view self.old }
+    {
+        if self.is_staged() {
+            self.number = self.number.saturating_add(1);
+            self.base = self.staged;
+        }
+    }
+}
+
+fn seen(alloc: Global, fresh: &[Fresh]) -> Result<Vec<View>, AllocError>
+    ensures { IfOk result (λ views. views.items ≡ map spec.seen fresh.now) }
+{
+    fresh.iter().map(|fresh| View::of(fresh)).collect(alloc)
+}
+
+/// The views of a session that attaches.
+fn views_of(alloc: Global, fresh: &[Fresh]) -> Result<List<View>, AllocError>
+    ensures { IfOk result (λ views. views ≡ map spec.seen fresh.now) }
+{
+    Ok(List::from_vec(seen(alloc, fresh)?))
+}
+
+fn staged(alloc: Global, views: &[View]) -> Result<Vec<Change>, AllocError>
+    ensures { IfOk result (λ changes.
+        changes.items ≡ map spec.change_of_view (filter spec.is_staged views.now)) }
+{
+    views
+        .iter()
+        .filter(|view| view.is_staged())
+        .map(|view| view.change())
+        .collect(alloc)
+}
+
+/// What a commit changes.
+fn staged_changes(alloc: Global, views: &[View]) -> Result<List<Change>, AllocError>
+    ensures { IfOk result (λ changes.
+        changes ≡ map spec.change_of_view (filter spec.is_staged views.now)) }
+{
+    Ok(List::from_vec(staged(alloc, views)?))
+}
+
+fn put_view(views: &mut List<View>, view: View)
+    ensures { views.new ≡ slice_set views.old view.object view }
+{
+    let at = view.object as usize;
+    if at < views.len() {
+        *views.at_mut(at) = view;
+    }
+}
+
+fn own_view(views: &mut List<View>, object: u16)
+    ensures { views.new ≡ spec.owning_in views.old object }
+{
+    if let Some(view) = views.get(object as usize) {
+        let mut view = *view;
+        view.owned = true;
+        put_view(views, view);
+    }
+}
+
+fn update_views(views: &mut List<View>)
+    ensures { views.new ≡ map spec.updated views.old }
+{
+    for at in 0..views.len() {
+        views.at_mut(at).update();
+    }
+}
+
+fn commit_views(views: &mut List<View>)
+    ensures { views.new ≡ map spec.committed_view views.old }
+{
+    for at in 0..views.len() {
+        views.at_mut(at).commit();
+    }
+}
+
+fn no_name() -> Text
+    ensures { result ≡ [] }
+{
+    Text::of(b"").unwrap()
+}
+
+/// The name at a place of a list, from 0, and the empty text past its end.
+pub fn name_at(names: &[Text], at: usize) -> Text
+    ensures { result ≡ spec.name_at names.now at }
+{
+    match names.get(at) {
+        Some(name) => *name,
+        None => no_name(),
+    }
+}
+
+impl Session {
+    /// A session of this number. It isn't attached yet.
+    pub fn new(who: u32) -> Session
+        ensures { result ≡ spec.new_session who }
+    {
+        Session { who, views: None }
+    }
+
+    fn located(&self, definitions: &[Text], name: &Text) -> Result<View, Refusal>
+        ensures { result ≡ spec.located definitions.now self.now name.now }
+    {
+        let Some(object) = find_word(definitions, name) else {
+            return Err(Refusal::no_form());
+        };
+        let Some(views) = &self.views else {
+            return Err(Refusal::not_attached());
+        };
+        match views.get(object) {
+            Some(view) => Ok(*view),
+            None => Err(Refusal::no_form()),
+        }
+    }
+
+    fn put(&mut self, view: View)
+        ensures { self.new ≡ spec.with_view self.old view }
+    {
+        if let Some(views) = &mut self.views {
+            put_view(views, view);
+        }
+    }
+
+    fn attach(&self) -> Begun
+        ensures { (result, self.now) ≡ spec.begun [] self.now Attach }
+    {
+        match &self.views {
+            None => Begun::Ask(Entry::Attach { who: self.who }),
+            Some(_) => Begun::Said(Answer::Refused(Refusal::already_attached())),
+        }
+    }
+
+    fn acquire(&self, definitions: &[Text], name: &Text) -> Begun
+        ensures { (result, self.now) ≡ spec.begun definitions.now self.now (Acquire name.now) }
+    {
+        match self.located(definitions, name) {
+            Err(refusal) => Begun::Said(Answer::Refused(refusal)),
+            Ok(view) => Begun::Ask(Entry::Acquire {
+                who: self.who,
+                object: view.object,
+                number: view.number,
+            }),
+        }
+    }
+
+    fn assign(&mut self, definitions: &[Text], name: &Text, value: i32) -> Begun
+        ensures { (result, self.new) ≡ spec.begun definitions.now self.old (Assign name.now value) }
+    {
+        match self.located(definitions, name) {
+            Err(refusal) => Begun::Said(Answer::Refused(refusal)),
+            Ok(mut view) => {
+                view.private = Cell::Int(value);
+                self.put(view);
+                Begun::Said(Answer::Done)
+            }
+        }
+    }
+
+    fn update(&mut self) -> Begun
+        ensures { (result, self.new) ≡ spec.begun [] self.old Update }
+    {
+        match &mut self.views {
+            None => Begun::Said(Answer::Refused(Refusal::not_attached())),
+            Some(views) => {
+                update_views(views);
+                Begun::Said(Answer::Done)
+            }
+        }
+    }
+
+    fn commit(&self, alloc: Global) -> Result<Begun, AllocError>
+        ensures { IfOk result (λ begun. (begun, self.now) ≡ spec.begun [] self.now Commit) }
+    {
+        let Some(views) = &self.views else {
+            return Ok(Begun::Said(Answer::Refused(Refusal::not_attached())));
+        };
+        let changes = staged_changes(alloc, views.as_slice())?;
+        if changes.is_empty() {
+            return Ok(Begun::Said(Answer::Done));
+        }
+        Ok(Begun::Ask(Entry::Commit {
+            who: self.who,
+            changes,
+        }))
+    }
+
+    fn show(&self, definitions: &[Text], name: &Text) -> Begun
+        ensures { (result, self.now) ≡ spec.begun definitions.now self.now (Show name.now) }
+    {
+        match self.located(definitions, name) {
+            Err(refusal) => Begun::Said(Answer::Refused(refusal)),
+            Ok(view) => Begun::Said(Answer::Shown(view.private)),
+        }
+    }
+
+    /// Begins a command: the session answers it, or asks the shared state for an entry, whose reply
+    /// goes to `finish` (docs/LANGUAGE.md, "Statements"). `definitions` are the names of the objects
+    /// in order of definition.
+    ///
+    /// Refused are a name that isn't defined (1), then a session that isn't attached (15), or for
+    /// `AW ATTACH` one that is (16). The only error is want of memory, which leaves the session as
+    /// it was.
+    pub fn begin(
+        &mut self,
+        alloc: Global,
+        definitions: &[Text],
+        command: &Command,
+    ) -> Result<Begun, AllocError>
+        ensures begun { IfOk result (λ begun.
+            (begun, self.new) ≡ spec.begun definitions.now self.old command.now) }
+        ensures err { OnErr result (self.new ≡ self.old) }
+    {
+        match command {
+            Command::Attach => Ok(self.attach()),
+            Command::Acquire(name) => Ok(self.acquire(definitions, name)),
+            Command::Assign { name, value } => Ok(self.assign(definitions, name, *value)),
+            Command::Update => Ok(self.update()),
+            Command::Commit => self.commit(alloc),
+            Command::Show(name) => Ok(self.show(definitions, name)),
+        }
+    }
+
+    fn own(&mut self, asked: &Entry)
+        ensures { self.new ≡ spec.owning self.old asked.now }
+    {
+        let Entry::Acquire { object, .. } = asked else {
+            return;
+        };
+        if let Some(views) = &mut self.views {
+            own_view(views, *object);
+        }
+    }
+
+    fn committed(&mut self)
+        ensures { self.new
+            ≡ record self.old { views = option_map (map spec.committed_view) self.old.views } }
+    {
+        if let Some(views) = &mut self.views {
+            commit_views(views);
+        }
+    }
+
+    /// Takes the reply to the entry that the session asked for, and answers the command
+    /// (docs/SHARING.md). `definitions` are the names of the objects in order of definition, and
+    /// `names` those of the sessions by their numbers.
+    ///
+    /// Refused are an object that another session owns (17), one with a newer generation (18), one
+    /// that the session doesn't own (19) and one whose numbers are used up (22), as the reply says;
+    /// the session stays as it was. The only error is want of memory, here or in the reply, which
+    /// leaves the session as it was, too.
+    pub fn finish(
+        &mut self,
+        alloc: Global,
+        definitions: &[Text],
+        names: &[Text],
+        asked: &Entry,
+        reply: &Reply,
+    ) -> Result<Answer, AllocError>
+        ensures finished { IfOk result (λ answer.
+            (answer, self.new) ≡ spec.finished definitions.now names.now self.old asked.now reply.now) }
+        ensures memory { reply.now ≡ NoMemory → IsErr result }
+        ensures err { OnErr result (self.new ≡ self.old) }
+    {
+        match reply {
+            Reply::Attached(fresh) => {
+                self.views = Some(views_of(alloc, fresh.as_slice())?);
+                Ok(Answer::Done)
+            }
+            Reply::Acquired => {
+                self.own(asked);
+                Ok(Answer::Done)
+            }
+            Reply::Committed => {
+                self.committed();
+                Ok(Answer::Done)
+            }
+            Reply::Owned { object, by } => Ok(Answer::Refused(Refusal::owned_by(
+                name_at(definitions, *object as usize),
+                name_at(names, *by as usize),
+            ))),
+            Reply::Newer { object, number } => Ok(Answer::Refused(Refusal::newer(
+                name_at(definitions, *object as usize),
+                *number,
+            ))),
+            Reply::Stranger { object } => Ok(Answer::Refused(Refusal::not_acquired(name_at(
+                definitions,
+                *object as usize,
+            )))),
+            Reply::Worn { object } => Ok(Answer::Refused(Refusal::full(name_at(
+                definitions,
+                *object as usize,
+            )))),
+            Reply::NoMemory => Err(AllocError),
+        }
+    }
+}
+
+#[cfg(test)]
+mod tests {
+    use super::*;
+    use crate::answer::Detail;
+    use std::test::Fail;
+
+    fn text(bytes: &[u8]) -> Result<Text, Fail> {
+        Ok(Text::of(bytes).ok_or("no text")?)
+    }
+
+    /// The answer to a command, and the entry that it asks for and that the reply replies to.
+    fn turn(
+        alloc: Global,
+        session: &mut Session,
+        command: &Command,
+        reply: &Reply,
+    ) -> Result<(Answer, Option<Entry>), Fail> {
+        let definitions = [text(b"v")?, text(b"w")?];
+        let names = [text(b"a")?, text(b"b")?];
+        match session.begin(alloc, &definitions, command)? {
+            Begun::Said(answer) => Ok((answer, None)),
+            Begun::Ask(asked) => {
+                let answer = session.finish(alloc, &definitions, &names, &asked, reply)?;
+                Ok((answer, Some(asked)))
+            }
+        }
+    }
+
+    fn attached(alloc: Global) -> Result<Reply, Fail> {
+        let fresh = [(0, 4, Cell::Na), (1, 2, Cell::Int(3))].map(|(object, number, cell)| Fresh {
+            object,
+            number,
+            cell,
+        });
+        Ok(Reply::Attached(List::from_slice(alloc, &fresh)?))
+    }
+
+    fn view(object: u16, number: u64, cell: Cell, owned: bool) -> View {
+        let base = cell;
+        let staged = cell;
+        View {
+            object,
+            number,
+            base,
+            staged,
+            private: cell,
+            owned,
+        }
+    }
+
+    fn commit_of(alloc: Global, object: u16, cell: Cell) -> Result<Entry, Fail> {
+        let changes = List::from_slice(alloc, &[Change { object, cell }])?;
+        Ok(Entry::Commit { who: 1, changes })
+    }
+
+    fn asks(entry: Entry) -> (Answer, Option<Entry>) {
+        (Answer::Done, Some(entry))
+    }
+
+    #[test]
+    fn commits_what_is_acquired_and_staged(rt: HostRuntime) -> Result<(), Fail> {
+        let (alloc, v, seven) = (rt.alloc(), text(b"v")?, Cell::Int(7));
+        let (nothing, done) = (Reply::NoMemory, (Answer::Done, None));
+        let mut session = Session::new(1);
+        let attach = turn(alloc, &mut session, &Command::Attach, &attached(alloc)?)?;
+        assert_eq!(rt; attach, asks(Entry::Attach { who: 1 }));
+        let assign = Command::Assign { name: v, value: 7 };
+        for command in [assign, Command::Update, Command::Commit] {
+            assert_eq!(rt; turn(alloc, &mut session, &command, &nothing)?, done);
+        }
+        let acquire = turn(alloc, &mut session, &Command::Acquire(v), &Reply::Acquired)?;
+        let entry = Entry::Acquire {
+            who: 1,
+            object: 0,
+            number: 4,
+        };
+        assert_eq!(rt; acquire, asks(entry));
+        let show = turn(alloc, &mut session, &Command::Show(v), &nothing)?;
+        assert_eq!(rt; show, (Answer::Shown(seven), None));
+        let update = turn(alloc, &mut session, &Command::Update, &nothing)?;
+        assert_eq!(rt; update, done);
+        let commit = turn(alloc, &mut session, &Command::Commit, &Reply::Committed)?;
+        assert_eq!(rt; commit, asks(commit_of(alloc, 0, seven)?));
+        let views = [view(0, 5, seven, true), view(1, 2, Cell::Int(3), false)];
+        assert_eq!(rt; session.views, Some(List::from_slice(alloc, &views)?));
+        Ok(())
+    }
+
+    #[test]
+    fn refuses_by_itself(rt: HostRuntime) -> Result<(), Fail> {
+        let (alloc, v, unknown) = (rt.alloc(), text(b"v")?, text(b"u")?);
+        let mut session = Session::new(1);
+        let cases = [
+            (Command::Show(unknown), Refusal::no_form()),
+            (Command::Show(v), Refusal::not_attached()),
+            (Command::Acquire(v), Refusal::not_attached()),
+            (
+                Command::Assign { name: v, value: 7 },
+                Refusal::not_attached(),
+            ),
+            (Command::Update, Refusal::not_attached()),
+            (Command::Commit, Refusal::not_attached()),
+        ];
+        for (command, refusal) in cases {
+            let answered = turn(alloc, &mut session, &command, &Reply::Acquired)?;
+            assert_eq!(rt; answered, (Answer::Refused(refusal), None));
+        }
+        let _ = turn(alloc, &mut session, &Command::Attach, &attached(alloc)?)?;
+        let answered = turn(alloc, &mut session, &Command::Attach, &Reply::Acquired)?;
+        let refusal = Refusal::already_attached();
+        assert_eq!(rt; answered, (Answer::Refused(refusal), None));
+        Ok(())
+    }
+
+    #[test]
+    fn refuses_by_the_reply(rt: HostRuntime) -> Result<(), Fail> {
+        let (alloc, v, w) = (rt.alloc(), text(b"v")?, text(b"w")?);
+        let mut session = Session::new(0);
+        let _ = turn(alloc, &mut session, &Command::Attach, &attached(alloc)?)?;
+        let cases = [
+            (
+                Reply::Owned { object: 0, by: 1 },
+                17,
+                Detail::Two(v, text(b"b")?),
+            ),
+            (
+                Reply::Newer {
+                    object: 1,
+                    number: 5,
+                },
+                18,
+                Detail::Count(w, 5),
+            ),
+            (Reply::Stranger { object: 1 }, 19, Detail::One(w)),
+            (Reply::Worn { object: 0 }, 22, Detail::One(v)),
+        ];
+        for (reply, number, detail) in cases {
+            let (answer, _) = turn(alloc, &mut session, &Command::Acquire(v), &reply)?;
+            assert_eq!(rt; answer, Answer::Refused(Refusal { number, detail }));
+        }
+        let asked = Entry::Attach { who: 0 };
+        let refused = session.finish(alloc, &[], &[], &asked, &Reply::NoMemory);
+        assert!(rt; refused.is_err());
+        Ok(())
+    }
+
+    fn needs_send_and_sync<T: Send + Sync + Drop>(_: T) {}
+
+    #[test]
+    fn goes_to_another_thread() {
+        needs_send_and_sync(Session::new(1));
+        needs_send_and_sync(Begun::Said(Answer::Done));
+        needs_send_and_sync(Command::Update);
+    }
+}
