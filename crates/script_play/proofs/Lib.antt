@@ -1,0 +1,15 @@
+pub mod Simulation
+pub mod Elements
+pub mod Fitting
+pub mod FittingSessions
+pub mod FittingTurns
+pub mod AssignedIntegers
+pub mod FittingWorlds
+pub mod Extending
+pub mod ScriptLaws
+pub mod TranscriptLaws
+pub mod Fed
+pub mod Finished
+pub mod Taken
+pub mod Isolation
+pub mod Endings

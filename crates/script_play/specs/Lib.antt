@@ -1,0 +1,11 @@
+pub mod Worlds
+pub mod Script
+pub mod Transcript
+pub mod Ends
+pub mod Fit
+pub mod Extending
+pub mod Sound
+pub mod Playing
+pub mod Players
+pub mod Reading
+pub mod Isolation
