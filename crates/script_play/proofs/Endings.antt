@@ -1,12 +1,11 @@
 -- How a run ends, told over the history and the owners.
-use Rattle.std.proofs.Common.{◌≡◌, ◌≤◌, ℕ, Bool, true, false, List, [], length, take, Option, refl, sym, ap, ◌∙◌, subst, inl, inr, lit≤}
-use Rattle.std.specs.Io.KnownBytes.{IsAtEnd}
-use Rattle.aw_io.specs.Known.{Gives, Grows, GrowsByFront, Gives-nothing, Grows-nothing, GrowsByFront-all}
+use Rattle.std.proofs.Common.{◌≡◌, ℕ, List, [], take, Option, refl, sym, ◌∙◌, subst, inl, inr, lit≤}
+use Rattle.aw_io.specs.Known.{Grows, GrowsByFront, Gives-nothing, Grows-nothing, GrowsByFront-all}
 use Rattle.script_play.specs.declared.ending.Ending.{Ending}
 use Rattle.script_play.specs.declared.ending.Ending.TheVariants.{Accepted, Refusing, SourceFault, SinkFault, NoMemory, TooLong}
-use Rattle.script_play.specs.Ends.{Devices, Played, EndsSo, status_of, most_bytes}
+use Rattle.script_play.specs.Ends.{Devices, Played, status_of, most_bytes}
 use Rattle.script_play.specs.Script.{ended_lines, script_lines}
-use Rattle.script_play.specs.Transcript.{transcript, ended_transcript, has_refusal}
+use Rattle.script_play.specs.Transcript.{transcript, ended_transcript}
 use Rattle.script_play.specs.Playing.{Play, due, whole_due}
 use Rattle.script_play.specs.Reading.{ReadAll, StoppedReading, FinishesBy, devices}
 use Rattle.script_play.proofs.Simulation.{same_text, same_refused}

@@ -80,9 +80,9 @@ no_stranger objects who at least (view ∷ views) below numbered allowed =
         let may = and_from (nat_le least view.object) (may_change integers objects who (change_of_view view)) (le-leb least view.object (omega arith)) (allowed 0 view refl staged) in
         ap (λ it. if it then first_stranger integers objects who (view.object + 1) (changes_in views) else Some view.object) may ∙ rest (view.object + 1) (omega arith)
 
-module _ (definitions names : List (List ℕ)) (sessions : List Session) (shared : Workspace Change) (s : Session) (fits : SharedFits definitions sessions shared) (seat : slice_get sessions s.who ≡ Some s) (views : List View) (attached : s.views ≡ Some views) where
+module _ (definitions names : List (List ℕ)) (sessions : List Session) (shared : Workspace Change) (s : Session) (fits : SharedFits definitions sessions shared) (own_place : slice_get sessions s.who ≡ Some s) (views : List View) (attached : s.views ≡ Some views) where
   views_fit : ViewsFit shared s.who views
-  views_fit = (fits.each s.who s seat).views views attached
+  views_fit = (fits.each s.who s own_place).views views attached
 
   within : (object : ℕ) (view : View) → slice_get views object ≡ Some view → object < shared.objects
   within object view is = omega (arith, slice_get_within views object view is, views_fit.count)
@@ -199,7 +199,7 @@ module _ (definitions names : List (List ℕ)) (sessions : List Session) (shared
 
       grant : (it : Object Cell) → slice_get (standing integers shared) view.object ≡ Some it → MayGrant it s.who view.number → P Acquired
       grant it is may _ =
-          let latest = granted_latest definitions names sessions shared s fits seat views attached object view found it (ap (slice_get (standing integers shared)) (sym here) ∙ is) may in
+          let latest = granted_latest definitions names sessions shared s fits own_place views attached object view found it (ap (slice_get (standing integers shared)) (sym here) ∙ is) may in
           record {
             object = object;
             view = view;
@@ -223,13 +223,13 @@ module _ (lines : List (List ℕ)) where
   shared_fits : (shared : Workspace Change) → reached.shared ≡ Some shared → SharedFits reached.definitions reached.sessions shared
   shared_fits shared is = (always_fits lines).shared shared is
 
-  seat_of_session : (shared : Workspace Change) (who : ℕ) (session : Session) → reached.shared ≡ Some shared → slice_get reached.sessions who ≡ Some session → slice_get reached.sessions session.who ≡ Some session
-  seat_of_session shared who session is found = ap (slice_get reached.sessions) ((shared_fits shared is).each who session found).number ∙ found
+  found_by_number : (shared : Workspace Change) (who : ℕ) (session : Session) → reached.shared ≡ Some shared → slice_get reached.sessions who ≡ Some session → slice_get reached.sessions session.who ≡ Some session
+  found_by_number shared who session is found = ap (slice_get reached.sessions) ((shared_fits shared is).each who session found).number ∙ found
 
   pub commits_extend : CommitsExtend (world_after by_history opening lines)
   commits_extend shared who session views is found attached =
-      commits reached.definitions reached.names reached.sessions shared session (shared_fits shared is) (seat_of_session shared who session is found) views attached
+      commits reached.definitions reached.names reached.sessions shared session (shared_fits shared is) (found_by_number shared who session is found) views attached
 
   pub grants_have_latest : GrantsHaveLatest (world_after by_history opening lines)
   grants_have_latest shared who session views is found attached =
-      acquires reached.definitions reached.names reached.sessions shared session (shared_fits shared is) (seat_of_session shared who session is found) views attached
+      acquires reached.definitions reached.names reached.sessions shared session (shared_fits shared is) (found_by_number shared who session is found) views attached

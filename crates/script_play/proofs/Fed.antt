@@ -1,7 +1,7 @@
 -- What a byte, and bytes one after the other, do to a play.
-use Rattle.std.proofs.Common.{◌≡◌, ◌||◌, ℕ, Bool, true, false, cond, eqb, List, [], ◌∷◌, ◌++◌, Option, refl, sym, ap, ◌∙◌, subst, append_assoc, append-nil}
+use Rattle.std.proofs.Common.{◌≡◌, ◌||◌, ℕ, Bool, true, false, eqb, List, [], ◌∷◌, ◌++◌, Option, refl, sym, ap, ◌∙◌, subst, append_assoc, append-nil}
 use Rattle.std.specs.Str.Lines.{strip_carriage_return}
-use Rattle.std.proofs.lemmas.Bool.{cond-true, cond-false}
+use Rattle.std.proofs.lemmas.Bool.{cond-false}
 use Rattle.aw_io.specs.Known.{Grows, GrowsByFront, Grows-append, GrowsByFront-append, GrowsByFront-all, GrowsByFront-more}
 use Rattle.aw_cell.specs.declared.cell.Cell.{Cell}
 use Rattle.mv_core.specs.declared.object.Object.{Object}

@@ -92,14 +92,14 @@ ViewsFit-seen shared who values not_owned = record {
 
 -- ---- one session's turn among all sessions
 
-module _ (definitions : List (List ℕ)) (sessions : List Session) (shared : Workspace Change) (s : Session) (fits : SharedFits definitions sessions shared) (seat : slice_get sessions s.who ≡ Some s) where
+module _ (definitions : List (List ℕ)) (sessions : List Session) (shared : Workspace Change) (s : Session) (fits : SharedFits definitions sessions shared) (own_place : slice_get sessions s.who ≡ Some s) where
   attached_still : (new : Session) → (IsSome s.views → IsSome new.views) → (by : ℕ) → IsAttached sessions by → IsAttached (slice_set sessions s.who new) by
   attached_still new keeps by attached = ⊎_elim itself another (cases_eq by s.who)
     where
       itself : by ≡ s.who → IsAttached (slice_set sessions s.who new) by
       itself same =
-          let was : attached.0 ≡ s = same_Some attached.0 s (sym attached.1 ∙ ap (slice_get sessions) same ∙ seat) in
-          (new, ap (slice_get (slice_set sessions s.who new)) same ∙ slice_get-set_same sessions s.who s new seat, keeps (subst (λ (it : Session). IsSome it.views) was attached.2))
+          let was : attached.0 ≡ s = same_Some attached.0 s (sym attached.1 ∙ ap (slice_get sessions) same ∙ own_place) in
+          (new, ap (slice_get (slice_set sessions s.who new)) same ∙ slice_get-set_same sessions s.who s new own_place, keeps (subst (λ (it : Session). IsSome it.views) was attached.2))
 
       another : (by ≡ s.who → ⊥) → IsAttached (slice_set sessions s.who new) by
       another differs = (attached.0, slice_get-set_other sessions s.who by new differs ∙ attached.1, attached.2)
@@ -115,7 +115,7 @@ module _ (definitions : List (List ℕ)) (sessions : List Session) (shared : Wor
     each = λ who session is.
         ⊎_elim (λ there. subst₂ (SessionFits after) (sym there.0) (sym there.1) itself) (λ other. others who session other.0 (fits.each who session other.1)) (slice_get-set_cases sessions s.who who new session is);
     owners = λ object by is.
-        ⊎_elim (λ before. let owner = fits.owners object by before in (omega (arith, owner.0, kept), attached_still new attached by owner.1)) (λ gained. (omega (arith, gained.1, kept), (new, ap (slice_get (slice_set sessions s.who new)) gained.0 ∙ slice_get-set_same sessions s.who s new seat, gained.2))) (owned object by is);
+        ⊎_elim (λ before. let owner = fits.owners object by before in (omega (arith, owner.0, kept), attached_still new attached by owner.1)) (λ gained. (omega (arith, gained.1, kept), (new, ap (slice_get (slice_set sessions s.who new)) gained.0 ∙ slice_get-set_same sessions s.who s new own_place, gained.2))) (owned object by is);
   }
 
   -- ---- a turn that leaves the commits and the owners
@@ -125,7 +125,7 @@ module _ (definitions : List (List ℕ)) (sessions : List Session) (shared : Wor
       SharedFits-turned shared new refl itself (λ other session differs it. it) attached (λ object by is. inl is) fits.values
 
   pub unchanged : SharedFits definitions (slice_set sessions s.who s) shared
-  unchanged = changed_alone s (fits.each s.who s seat) (λ attached. attached)
+  unchanged = changed_alone s (fits.each s.who s own_place) (λ attached. attached)
 
   pub attached_alone : (views : List View) → ViewsFit shared s.who views → SharedFits definitions (slice_set sessions s.who (record s { views = Some views })) shared
   attached_alone views it =
@@ -135,7 +135,7 @@ module _ (definitions : List (List ℕ)) (sessions : List Session) (shared : Wor
 
   module _ (views : List View) (attached : s.views ≡ Some views) where
     pub views_fit : ViewsFit shared s.who views
-    views_fit = (fits.each s.who s seat).views views attached
+    views_fit = (fits.each s.who s own_place).views views attached
 
     pub within : (object : ℕ) (view : View) → slice_get views object ≡ Some view → object < shared.objects
     within object view is = omega (arith, slice_get_within views object view is, views_fit.count)

@@ -103,7 +103,7 @@ abbrev pub AssignsInteger : Command → Type 0
 AssignsInteger (command.Assign name value) = is_integer (Int value) ≡ true
 AssignsInteger _ = Unit
 
-module _ (definitions names : List (List ℕ)) (sessions : List Session) (shared : Workspace Change) (s : Session) (fits : SharedFits definitions sessions shared) (seat : slice_get sessions s.who ≡ Some s) where
+module _ (definitions names : List (List ℕ)) (sessions : List Session) (shared : Workspace Change) (s : Session) (fits : SharedFits definitions sessions shared) (own_place : slice_get sessions s.who ≡ Some s) where
   abbrev Kept : Turn (Workspace Change) → Type 0
   Kept t = SharedFits definitions (slice_set sessions s.who t.session) t.shared
 
@@ -112,20 +112,20 @@ module _ (definitions names : List (List ℕ)) (sessions : List Session) (shared
   KeptBy asked reply = SharedFits definitions (slice_set sessions s.who (finished definitions names s asked reply).1) (workspace_after shared asked reply)
 
   stays : SharedFits definitions (slice_set sessions s.who s) shared
-  stays = unchanged definitions sessions shared s fits seat
+  stays = unchanged definitions sessions shared s fits own_place
 
   attach_kept : (views : Option (List View)) → s.views ≡ views → Kept (turn_from by_history definitions names shared (elim views [ None ↦ (Ask (entry.Attach s.who), s) | Some views ↦ (Said (Refused already_attached), s) ]))
   attach_kept (Some views) is = stays
   attach_kept None is =
-      attached_alone definitions sessions shared s fits seat (map seen (fresh_from 0 (standing integers shared))) (ViewsFit-seen shared s.who fits.values (λ object owned. not_attached_yet (fits.owners object s.who owned).1))
+      attached_alone definitions sessions shared s fits own_place (map seen (fresh_from 0 (standing integers shared))) (ViewsFit-seen shared s.who fits.values (λ object owned. not_attached_yet (fits.owners object s.who owned).1))
     where
       not_attached_yet : IsAttached sessions s.who → ⊥
       not_attached_yet attached =
-          true≢false (sym attached.2 ∙ ap (λ it. is_some it.views) (same_Some attached.0 s (sym attached.1 ∙ seat)) ∙ ap is_some is)
+          true≢false (sym attached.2 ∙ ap (λ it. is_some it.views) (same_Some attached.0 s (sym attached.1 ∙ own_place)) ∙ ap is_some is)
 
   module _ (views : List View) (attached : s.views ≡ Some views) where
     all_fit : ViewsFit shared s.who views
-    all_fit = views_fit definitions sessions shared s fits seat views attached
+    all_fit = views_fit definitions sessions shared s fits own_place views attached
 
     -- a view stands at the place of its object
     at_place : (object : ℕ) (view : View) → slice_get views object ≡ Some view → slice_get views view.object ≡ Some view
@@ -134,7 +134,7 @@ module _ (definitions names : List (List ℕ)) (sessions : List Session) (shared
     -- an object that is granted is free, and the session has its latest generation
     granted_object : (object : ℕ) (view : View) → slice_get views object ≡ Some view → (it : Object Cell) → slice_get (standing integers shared) object ≡ Some it → it ≡ object_of integers shared object
     granted_object object view found it is =
-        same_Some it (object_of integers shared object) (sym is ∙ slice_get-standing shared object (within definitions sessions shared s fits seat views attached object view found))
+        same_Some it (object_of integers shared object) (sym is ∙ slice_get-standing shared object (within definitions sessions shared s fits own_place views attached object view found))
 
     granted_free : (object : ℕ) (view : View) → slice_get views object ≡ Some view → (it : Object Cell) → slice_get (standing integers shared) object ≡ Some it → MayGrant it s.who view.number → IsFree shared object s.who
     granted_free object view found it is may =
@@ -150,7 +150,7 @@ module _ (definitions names : List (List ℕ)) (sessions : List Session) (shared
     granted_kept : (view : View) → slice_get views view.object ≡ Some view → (it : Object Cell) → slice_get (standing integers shared) view.object ≡ Some it → MayGrant it s.who view.number → KeptBy (entry.Acquire s.who view.object view.number) Acquired
     granted_kept view here it is may =
         subst (λ (those : Option (List View)). let new : Session = record s { views = those } in SharedFits definitions (slice_set sessions s.who new) (granted_to shared view.object s.who)) (sym (ap (option_map (λ those. owning_in those view.object)) attached ∙ ap (λ found. Some (elim found [ None ↦ views | Some one ↦ slice_set views one.object (record one { owned = true }) ])) here))
-        (granted definitions sessions shared s fits seat views attached view.object view here (granted_free view.object view here it is may) (granted_latest view.object view here it is may))
+        (granted definitions sessions shared s fits own_place views attached view.object view here (granted_free view.object view here it is may) (granted_latest view.object view here it is may))
 
     acquire_kept : (object : ℕ) (view : View) → slice_get views object ≡ Some view → KeptBy (entry.Acquire s.who view.object view.number) (reply_of (standing integers shared) (entry.Acquire s.who view.object view.number))
     acquire_kept object view found =
@@ -159,7 +159,7 @@ module _ (definitions names : List (List ℕ)) (sessions : List Session) (shared
     assign_kept : (value : ℤ) → is_integer (Int value) ≡ true → (object : ℕ) (view : View) → slice_get views object ≡ Some view → SharedFits definitions (slice_set sessions s.who (with_view s (record view { private = Int value }))) shared
     assign_kept value value_fits object view found =
         subst (λ (those : Option (List View)). let new : Session = record s { views = those } in SharedFits definitions (slice_set sessions s.who new) shared) (sym (ap (option_map (λ those. slice_set those view.object put)) attached))
-        (attached_alone definitions sessions shared s fits seat (slice_set views view.object put) (ViewsFit-set shared shared s.who refl views all_fit view.object put put_fits (λ at one differs it. it)))
+        (attached_alone definitions sessions shared s fits own_place (slice_set views view.object put) (ViewsFit-set shared shared s.who refl views all_fit view.object put put_fits (λ at one differs it. it)))
       where
         put : View
         put = record view { private = Int value }
@@ -171,7 +171,7 @@ module _ (definitions names : List (List ℕ)) (sessions : List Session) (shared
 
     updated_kept : SharedFits definitions (slice_set sessions s.who (record s { views = Some (map updated views) })) shared
     updated_kept =
-        attached_alone definitions sessions shared s fits seat (map updated views) (ViewsFit-mapped shared shared s.who refl views all_fit updated one)
+        attached_alone definitions sessions shared s fits own_place (map updated views) (ViewsFit-mapped shared shared s.who refl views all_fit updated one)
       where
         one : (object : ℕ) (view : View) → slice_get views object ≡ Some view → ViewFits shared s.who object view → ViewFits shared s.who object (updated view)
         one object view is it = record {
@@ -191,7 +191,7 @@ module _ (definitions names : List (List ℕ)) (sessions : List Session) (shared
         accepted : first_worn integers (standing integers shared) (change ∷ changes) ≡ None → KeptBy (entry.Commit s.who (change ∷ changes)) Committed
         accepted unworn =
             subst₂ (λ (those : Option (List View)) (made : List Change). let new : Session = record s { views = those } in SharedFits definitions (slice_set sessions s.who new) (committed shared made)) (sym (ap (option_map (map committed_view)) attached)) is
-            (committed_fits definitions sessions shared s fits seat views attached (λ object one within found. number-small shared (change ∷ changes) object one within unworn (sym (ap (change_of integers object) is) ∙ found)))
+            (committed_fits definitions sessions shared s fits own_place views attached (λ object one within found. number-small shared (change ∷ changes) object one within unworn (sym (ap (change_of integers object) is) ∙ found)))
 
   update_kept : (views : Option (List View)) → s.views ≡ views → Kept (turn_from by_history definitions names shared (elim views [ None ↦ (Said (Refused not_attached), s) | Some views ↦ (Said Done, record s { views = Some (map updated views) }) ]))
   update_kept None is = stays

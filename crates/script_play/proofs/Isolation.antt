@@ -10,33 +10,33 @@ use Rattle.ses_step.specs.declared.session.Session.{Session}
 use Rattle.ses_step.specs.Lines.{line_form}
 use Rattle.ses_step.specs.Sessions.{new_session}
 use Rattle.script_play.specs.declared.world.World.{World}
-use Rattle.script_play.specs.Worlds.{Answered, by_history, turn, silent, refused_as_no_form, no_session, can_define, seat_of, seated, shared_of, closed, commanded, line_answered}
-use Rattle.script_play.specs.Isolation.{speaker, KeepsOthers}
+use Rattle.script_play.specs.Worlds.{Answered, by_history, turn, silent, refused_as_no_form, no_session, can_define, session_place, with_session, shared_of, closed, commanded, line_answered}
+use Rattle.script_play.specs.Isolation.{session_of, KeepsOthers}
 use Rattle.script_play.proofs.Elements.{slice_get-set_other, slice_get-append, if-holds}
 
 module _ (who : ℕ) (session : Session) where
   abbrev Holds : World (Workspace Change) → Type 0
   Holds w = slice_get w.sessions who ≡ Some session
 
-  seated_holds : (w : World (Workspace Change)) (name : List ℕ) → Holds w → Holds (seated w name)
-  seated_holds w name holds =
-      let fresh = new_session (seat_of w name) in
-      if-holds Holds (nat_lt (seat_of w name) (length w.names)) w (record w { names = w.names ++ name ∷ []; sessions = w.sessions ++ fresh ∷ [] }) holds (slice_get-append w.sessions (fresh ∷ []) who session holds)
+  with_session_holds : (w : World (Workspace Change)) (name : List ℕ) → Holds w → Holds (with_session w name)
+  with_session_holds w name holds =
+      let fresh = new_session (session_place w name) in
+      if-holds Holds (nat_lt (session_place w name) (length w.names)) w (record w { names = w.names ++ name ∷ []; sessions = w.sessions ++ fresh ∷ [] }) holds (slice_get-append w.sessions (fresh ∷ []) who session holds)
 
-  commanded_holds : (w : World (Workspace Change)) (seat : ℕ) (command : Option Command) → who ≢ seat → Holds w → Holds (commanded by_history w seat command).world
-  commanded_holds w seat None differs holds = holds
-  commanded_holds w seat (Some command) differs holds =
-      let t = turn by_history w.definitions w.names (shared_of by_history w) (slice_index_or w.sessions seat (new_session seat)) command in
-      slice_get-set_other w.sessions seat who t.session differs ∙ holds
+  commanded_holds : (w : World (Workspace Change)) (own_place : ℕ) (command : Option Command) → who ≢ own_place → Holds w → Holds (commanded by_history w own_place command).world
+  commanded_holds w own_place None differs holds = holds
+  commanded_holds w own_place (Some command) differs holds =
+      let t = turn by_history w.definitions w.names (shared_of by_history w) (slice_index_or w.sessions own_place (new_session own_place)) command in
+      slice_get-set_other w.sessions own_place who t.session differs ∙ holds
 
-  line_holds : (w : World (Workspace Change)) (l : Line) → speaker w l ≢ Some who → Holds w → Holds (line_answered by_history w l).world
+  line_holds : (w : World (Workspace Change)) (l : Line) → session_of w l ≢ Some who → Holds w → Holds (line_answered by_history w l).world
   line_holds w line.Blank differs holds = holds
   line_holds w line.Malformed differs holds = holds
   line_holds w (line.Definition name) differs holds =
       if-holds (λ (a : Answered (Workspace Change)). Holds a.world) (can_define w name) (silent (record w { definitions = w.definitions ++ name ∷ [] })) (refused_as_no_form no_session w) holds holds
   line_holds w (line.Session name command) differs holds =
       let open_world = closed by_history w in
-      if-holds (λ (a : Answered (Workspace Change)). Holds a.world) (nat_lt (seat_of w name) 64) (commanded by_history (seated open_world name) (seat_of w name) command) (refused_as_no_form no_session open_world) (commanded_holds (seated open_world name) (seat_of w name) command (λ same. differs (ap Some (sym same))) (seated_holds open_world name holds)) holds
+      if-holds (λ (a : Answered (Workspace Change)). Holds a.world) (nat_lt (session_place w name) 64) (commanded by_history (with_session open_world name) (session_place w name) command) (refused_as_no_form no_session open_world) (commanded_holds (with_session open_world name) (session_place w name) command (λ same. differs (ap Some (sym same))) (with_session_holds open_world name holds)) holds
 
 pub keeps_others : (w : World (Workspace Change)) (line : List ℕ) → KeepsOthers w line
 keeps_others w line who differs session found = line_holds who session w (line_form line) differs found

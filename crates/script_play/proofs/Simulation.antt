@@ -20,7 +20,7 @@ use Rattle.ses_step.specs.declared.session.Session.{Session}
 use Rattle.ses_step.specs.Lines.{line_form}
 use Rattle.ses_step.specs.Sessions.{new_session, begun}
 use Rattle.script_play.specs.declared.world.World.{World}
-use Rattle.script_play.specs.Worlds.{Machine, by_history, by_objects, Turn, replied, turn_from, turn, Answered, silent, refused_as_no_form, no_session, can_define, defined, seat_of, seated, shared_of, closed, turned, commanded, session_answered, line_answered, answered}
+use Rattle.script_play.specs.Worlds.{Machine, by_history, by_objects, Turn, replied, turn_from, turn, Answered, silent, refused_as_no_form, no_session, can_define, defined, session_place, with_session, shared_of, closed, turned, commanded, session_answered, line_answered, answered}
 use Rattle.script_play.specs.Transcript.{opening, text_of, any_refused}
 
 if-map : {A B : Type 0} (g : A → B) (test : Bool) (yes_case no_case : A) → (if test then g yes_case else g no_case) ≡ g (if test then yes_case else no_case)
@@ -64,14 +64,14 @@ module _ {S T : Type 0} (coarse : Machine S) (fine : Machine T) (f : T → S)
       let session = slice_index_or w.sessions who (new_session who) in
       ap (λ shared. turned coarse (mapped w) who (turn coarse w.definitions w.names shared session command)) (shared_of-mapped w) ∙ ap (turned coarse (mapped w) who) (turn-mapped w.definitions w.names (shared_of fine w) session command)
 
-  seated-mapped : (w : World T) (name : List ℕ) → seated (mapped w) name ≡ mapped (seated w name)
-  seated-mapped w name =
-      if-map mapped (nat_lt (seat_of w name) (length w.names)) w (record w { names = w.names ++ name ∷ []; sessions = w.sessions ++ new_session (seat_of w name) ∷ [] })
+  with_session-mapped : (w : World T) (name : List ℕ) → with_session (mapped w) name ≡ mapped (with_session w name)
+  with_session-mapped w name =
+      if-map mapped (nat_lt (session_place w name) (length w.names)) w (record w { names = w.names ++ name ∷ []; sessions = w.sessions ++ new_session (session_place w name) ∷ [] })
 
   session_answered-mapped : (w : World T) (name : List ℕ) (command : Option Command) → session_answered coarse (mapped w) name command ≡ mapped_answer (session_answered fine w name command)
   session_answered-mapped w name command =
-      elim (nat_lt (seat_of w name) 64) as (λ room. (if room then commanded coarse (seated (mapped w) name) (seat_of w name) command else refused_as_no_form no_session (mapped w)) ≡ mapped_answer (if room then commanded fine (seated w name) (seat_of w name) command else refused_as_no_form no_session w)) [
-        | true ↦ ap (λ world. commanded coarse world (seat_of w name) command) (seated-mapped w name) ∙ commanded-mapped (seated w name) (seat_of w name) command
+      elim (nat_lt (session_place w name) 64) as (λ room. (if room then commanded coarse (with_session (mapped w) name) (session_place w name) command else refused_as_no_form no_session (mapped w)) ≡ mapped_answer (if room then commanded fine (with_session w name) (session_place w name) command else refused_as_no_form no_session w)) [
+        | true ↦ ap (λ world. commanded coarse world (session_place w name) command) (with_session-mapped w name) ∙ commanded-mapped (with_session w name) (session_place w name) command
         | false ↦ refl
       ]
 

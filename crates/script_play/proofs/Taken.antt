@@ -1,10 +1,10 @@
 -- Reading a script piece by piece.
-use Rattle.std.proofs.Common.{◌≡◌, ◌≤◌, ◌+◌, ℕ, List, [], ◌∷◌, ◌++◌, length, take, Option, Result, Ok, Err, refl, sym, ap, ◌∙◌, subst, append-nil, arith, length-append}
+use Rattle.std.proofs.Common.{◌≡◌, ◌≤◌, ◌+◌, ℕ, List, [], ◌∷◌, ◌++◌, length, Option, Result, Ok, Err, refl, sym, subst, arith, length-append}
 use Rattle.std.proofs.lemmas.List.{take_at}
 use Rattle.std.specs.Io.KnownBytes.{IsAtEnd}
-use Rattle.aw_io.specs.Known.{Gives, Grows, GrowsByFront, Gives-nothing, Gives-append, Grows-nothing}
+use Rattle.aw_io.specs.Known.{Gives, Grows, Gives-nothing, Gives-append, Grows-nothing}
 use Rattle.script_play.specs.Ends.{most_bytes}
-use Rattle.script_play.specs.Playing.{Play, HasPlayed, Feeds, StopsIn, due, fresh_play}
+use Rattle.script_play.specs.Playing.{Play, Feeds, StopsIn, due, fresh_play}
 use Rattle.script_play.specs.declared.ending.Ending.{Ending}
 use Rattle.script_play.specs.declared.ending.Ending.TheVariants.{Accepted, Refusing, SourceFault, SinkFault, NoMemory, TooLong}
 use Rattle.script_play.specs.Reading.{HasRead, ReadAll, BrokeOff, CutOff, RanOver, GivesOne, EndsOrFails, Reads, devices}

@@ -1,5 +1,5 @@
 -- The transcript of lines, and of more lines behind them.
-use Rattle.std.proofs.Common.{◌≡◌, ◌||◌, ℕ, Bool, true, false, List, [], ◌∷◌, ◌++◌, refl, sym, ap, ◌∙◌, append_assoc, append-nil}
+use Rattle.std.proofs.Common.{◌≡◌, ◌||◌, ℕ, Bool, true, false, List, [], ◌∷◌, ◌++◌, refl, sym, ap, ◌∙◌, append_assoc}
 use Rattle.script_play.specs.declared.world.World.{World}
 use Rattle.script_play.specs.Worlds.{Machine, answered}
 use Rattle.script_play.specs.Transcript.{text_of, any_refused, world_after}

@@ -42,7 +42,7 @@ pub record SharedFits (definitions : List (List ℕ)) (sessions : List Session) 
 
 -- a session for each name, and none before the definitions are closed
 pub record WorldFits (w : World (Workspace Change)) : Type 0 where
-  pub seats : length w.sessions ≡ length w.names
+  pub paired : length w.sessions ≡ length w.names
   pub few : length w.names ≤ 64
   pub unopened : w.shared ≡ None → w.sessions ≡ []
   pub shared : ForSome w.shared (SharedFits w.definitions w.sessions)

@@ -7,14 +7,14 @@ use Rattle.ses_step.specs.declared.line.Line.{Line}
 use Rattle.ses_step.specs.declared.line.Line.TheVariants.{Session}
 use Rattle.ses_step.specs.Lines.{line_form}
 use Rattle.script_play.specs.declared.world.World.{World}
-use Rattle.script_play.specs.Worlds.{by_history, seat_of, answered}
+use Rattle.script_play.specs.Worlds.{by_history, session_place, answered}
 
 -- the number of the session that a line is of
-abbrev pub speaker : World (Workspace Change) → Line → Option ℕ
-speaker w (Session name command) = Some (seat_of w name)
-speaker w _ = None
+abbrev pub session_of : World (Workspace Change) → Line → Option ℕ
+session_of w (Session name command) = Some (session_place w name)
+session_of w _ = None
 
 -- a line that isn't of a session leaves what the session holds
 abbrev pub KeepsOthers : World (Workspace Change) → List ℕ → Type 0
 KeepsOthers w line =
-    (who : ℕ) → speaker w (line_form line) ≢ Some who → ForSome (slice_get w.sessions who) (λ session. slice_get (answered by_history w line).world.sessions who ≡ Some session)
+    (who : ℕ) → session_of w (line_form line) ≢ Some who → ForSome (slice_get w.sessions who) (λ session. slice_get (answered by_history w line).world.sessions who ≡ Some session)

@@ -7,7 +7,6 @@ use Rattle.script_play.specs.declared.world.World.{World}
 use Rattle.script_play.specs.Worlds.{by_objects}
 use Rattle.script_play.specs.Script.{ended_lines, open_line, script_lines}
 use Rattle.script_play.specs.Transcript.{opening, text_of, any_refused, world_after}
-use Rattle.script_play.specs.Sound.{IsSound}
 
 -- the world, the bytes of the line that hasn't ended, and whether a line was refused
 pub record Play : Type 0 where

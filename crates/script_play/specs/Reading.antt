@@ -1,5 +1,5 @@
 -- What reading the script did: the bytes that were taken, what was written for them, and the play after them.
-use Rattle.std.specs.Prelude.{◌≡◌, ◌≤◌, ◌+◌, ℕ, Bool, true, false, List, [], ◌∷◌, length, take, Option, Result, Ok, Err}
+use Rattle.std.specs.Prelude.{◌≡◌, ◌≤◌, ◌+◌, ℕ, true, false, List, [], ◌∷◌, length, take, Option, Result, Ok, Err}
 use Rattle.std.specs.Io.KnownBytes.{IsAtEnd}
 use Rattle.aw_io.specs.Known.{Gives, Grows, GrowsByFront}
 use Rattle.script_play.specs.declared.ending.Ending.{Ending}

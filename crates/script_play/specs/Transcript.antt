@@ -1,7 +1,5 @@
 -- The transcript of a script: each line's answer, in order, each in the world that the lines before it left.
 use Rattle.std.specs.Prelude.{◌||◌, ℕ, Bool, false, List, [], ◌∷◌, ◌++◌, None}
-use Rattle.mv_core.specs.declared.entry.Change.{Change}
-use Rattle.mv_core.specs.Workspace.{Workspace}
 use Rattle.script_play.specs.declared.world.World.{World}
 use Rattle.script_play.specs.Worlds.{Machine, by_history, answered}
 use Rattle.script_play.specs.Script.{ended_lines, script_lines}

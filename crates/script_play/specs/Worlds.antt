@@ -1,5 +1,5 @@
 -- The world of a run, and what a line of the script is answered in it and makes of it.
-use Rattle.std.specs.Prelude.{◌≡◌, ◌&&◌, ℕ, Bool, true, false, List, [], ◌∷◌, ◌++◌, length, nat_lt, nat_le, Option, Some, None, is_none, unwrap_or, if◌then◌else◌, slice_index_or, slice_set}
+use Rattle.std.specs.Prelude.{◌&&◌, ℕ, Bool, true, false, List, [], ◌∷◌, ◌++◌, length, nat_lt, Option, Some, None, is_none, unwrap_or, if◌then◌else◌, slice_index_or, slice_set}
 use Rattle.mv_core.specs.declared.entry.Change.{Change}
 use Rattle.mv_core.specs.declared.entry.Entry.{Entry}
 use Rattle.mv_core.specs.declared.entry.Reply.{Reply}
@@ -86,15 +86,15 @@ defined w name =
     if can_define w name then silent (record w { definitions = w.definitions ++ name ∷ [] }) else refused_as_no_form no_session w
 
 -- the place of a session by first appearance of its name, or the next one
-abbrev pub seat_of : {S : Type 0} → World S → List ℕ → ℕ
-seat_of w name = unwrap_or (place_of w.names name) (length w.names)
+abbrev pub session_place : {S : Type 0} → World S → List ℕ → ℕ
+session_place w name = unwrap_or (place_of w.names name) (length w.names)
 
 -- a name that hasn't appeared yet makes a session
-abbrev pub seated : {S : Type 0} → World S → List ℕ → World S
-seated w name =
-    if nat_lt (seat_of w name) (length w.names)
+abbrev pub with_session : {S : Type 0} → World S → List ℕ → World S
+with_session w name =
+    if nat_lt (session_place w name) (length w.names)
     then w
-    else record w { names = w.names ++ name ∷ []; sessions = w.sessions ++ new_session (seat_of w name) ∷ [] }
+    else record w { names = w.names ++ name ∷ []; sessions = w.sessions ++ new_session (session_place w name) ∷ [] }
 
 module _ {S : Type 0} (machine : Machine S) where
   -- the first session line closes the definitions and opens the shared state
@@ -119,8 +119,8 @@ module _ {S : Type 0} (machine : Machine S) where
   -- a run has at most 64 sessions; a line under any further name is refused
   abbrev pub session_answered : World S → List ℕ → Option Command → Answered S
   session_answered w name command =
-      if nat_lt (seat_of w name) 64
-      then commanded (seated w name) (seat_of w name) command
+      if nat_lt (session_place w name) 64
+      then commanded (with_session w name) (session_place w name) command
       else refused_as_no_form no_session w
 
   abbrev pub line_answered : World S → Line → Answered S

@@ -137,7 +137,7 @@ fn a_commit_stays_unseen(rt: HostRuntime) -> Result<(), Fail> {
 
 #[test]
 fn forms_of_a_script(rt: HostRuntime) -> Result<(), Fail> {
-    let cases: [(&[u8], u8, &[u8]); 12] = [
+    let cases: [(&[u8], u8, &[u8]); 4] = [
         (b"", 0, b""),
         (b"\n \t\r\n\" a: SHOW v\n", 0, b""),
         (
@@ -150,38 +150,39 @@ fn forms_of_a_script(rt: HostRuntime) -> Result<(), Fail> {
             0,
             b"a: ok\na: NA\n",
         ),
-        (b"a: COMMIT\r", 1, b"*: ERROR 1 1\n"),
-        (b"a: COMMIT\r\r\n", 1, b"*: ERROR 1 1\n"),
-        (
-            b"a: COMMIT\nDEFINE v VARIABLE INTEGER\n",
-            1,
-            b"a: ERROR 15\n*: ERROR 1 1\n",
-        ),
-        (
-            b"DEFINE v VARIABLE INTEGER\nDEFINE V VARIABLE INTEGER\n",
-            1,
-            b"*: ERROR 1 1\n",
-        ),
-        (
-            b"a: AW ATTACH MULTI\na: SHOW v\n",
-            1,
-            b"a: ok\na: ERROR 1 1\n",
-        ),
-        (
-            b"DEFINE v VARIABLE INTEGER\na: SHOW v\n",
-            1,
-            b"a: ERROR 15\n",
-        ),
-        (
-            b"a: AW ATTACH MULTI\nA: AW ATTACH MULTI\n",
-            1,
-            b"a: ok\na: ERROR 16\n",
-        ),
-        (b"a: v=7\na:\n", 1, b"a: ERROR 1 1\na: ERROR 1 1\n"),
     ];
     for (script, status, transcript) in cases {
         let (ended, written) = played(rt.alloc(), script)?;
         assert_eq!(rt; ended, status);
+        assert_eq!(rt; written.as_slice(), transcript);
+    }
+    Ok(())
+}
+
+#[test]
+fn refused_lines(rt: HostRuntime) -> Result<(), Fail> {
+    let cases: [(&[u8], &[u8]); 8] = [
+        (b"a: COMMIT\r", b"*: ERROR 1 1\n"),
+        (b"a: COMMIT\r\r\n", b"*: ERROR 1 1\n"),
+        (
+            b"a: COMMIT\nDEFINE v VARIABLE INTEGER\n",
+            b"a: ERROR 15\n*: ERROR 1 1\n",
+        ),
+        (
+            b"DEFINE v VARIABLE INTEGER\nDEFINE V VARIABLE INTEGER\n",
+            b"*: ERROR 1 1\n",
+        ),
+        (b"a: AW ATTACH MULTI\na: SHOW v\n", b"a: ok\na: ERROR 1 1\n"),
+        (b"DEFINE v VARIABLE INTEGER\na: SHOW v\n", b"a: ERROR 15\n"),
+        (
+            b"a: AW ATTACH MULTI\nA: AW ATTACH MULTI\n",
+            b"a: ok\na: ERROR 16\n",
+        ),
+        (b"a: v=7\na:\n", b"a: ERROR 1 1\na: ERROR 1 1\n"),
+    ];
+    for (script, transcript) in cases {
+        let (ended, written) = played(rt.alloc(), script)?;
+        assert_eq!(rt; ended, 1);
         assert_eq!(rt; written.as_slice(), transcript);
     }
     Ok(())

@@ -88,9 +88,11 @@ fn play<S: Source, K: Sink>(alloc: Global, script: &mut S, out: &mut K) -> Endin
     ensures source_cause { result ≡ ending.SourceFault → Rose (S.faults script.old) (S.faults script.new) }
     ensures sink_cause { result ≡ ending.SinkFault → Rose (K.faults out.old) (K.faults out.new) }
 {
-    let mut player = Player::new(alloc);
     match buffer(alloc) {
-        Ok(mut buffer) => play_with(&mut player, buffer.as_mut_slice(), script, out),
+        Ok(mut buffer) => {
+            let mut player = Player::new(alloc);
+            play_with(&mut player, buffer.as_mut_slice(), script, out)
+        }
         Err(_) => Ending::NoMemory,
     }
 }

@@ -11,7 +11,7 @@ use aw_cell::Text;
 use aw_lists::List;
 use mv_core::Shared;
 use ses_step::{
-    Answer, Begun, Command, Line, Refusal, Session, append_line, find_word, name_at, read_line,
+    Answer, Begun, Command, Line, Names, Refusal, Session, append_line, name_at, read_line,
 };
 use std::alloc::{AllocError, Global};
 
@@ -19,9 +19,9 @@ use std::alloc::{AllocError, Global};
 /// definitions are closed, and the names and the states of the sessions by first appearance.
 #[derive(Drop)]
 pub struct World<S> {
-    pub definitions: List<Text>,
+    pub definitions: Names,
     pub shared: Option<S>,
-    pub names: List<Text>,
+    pub names: Names,
     pub sessions: List<Session>,
 }
 
@@ -57,7 +57,7 @@ fn respond(
 /// A command of a session: it answers, or asks the shared state and answers by the reply.
 fn take_turn(
     alloc: Global,
-    definitions: &[Text],
+    definitions: &Names,
     names: &[Text],
     shared: &mut Shared,
     session: &mut Session,
@@ -70,7 +70,7 @@ fn take_turn(
         Begun::Said(answer) => Ok(answer),
         Begun::Ask(entry) => {
             let reply = shared.act(&entry);
-            session.finish(alloc, definitions, names, &entry, &reply)
+            session.finish(alloc, definitions.as_slice(), names, &entry, &reply)
         }
     }
 }
@@ -78,7 +78,7 @@ fn take_turn(
 /// A command of the session at a place, answered under its name. Tells whether it is refused.
 fn take_turn_at(
     alloc: Global,
-    definitions: &[Text],
+    definitions: &Names,
     names: &[Text],
     shared: &mut Shared,
     sessions: &mut List<Session>,
@@ -106,9 +106,9 @@ impl World<Shared> {
         ensures sound { IsSound result }
     {
         World {
-            definitions: List::new(alloc),
+            definitions: Names::new(alloc),
             shared: None,
-            names: List::new(alloc),
+            names: Names::new(alloc),
             sessions: List::new(alloc),
         }
     }
@@ -118,7 +118,7 @@ impl World<Shared> {
     {
         self.shared.is_none()
             && self.definitions.len() < 4096
-            && find_word(self.definitions.as_slice(), name).is_none()
+            && self.definitions.find(name).is_none()
     }
 
     fn define(&mut self, alloc: Global, name: Text, out: &mut Vec<u8>) -> Result<bool, AllocError>
@@ -145,22 +145,22 @@ impl World<Shared> {
         Ok(())
     }
 
-    fn seat_of(&self, name: &Text) -> usize
-        ensures { result ≡ spec.seat_of self.now name.now }
+    fn session_place(&self, name: &Text) -> usize
+        ensures { result ≡ spec.session_place self.now name.now }
     {
-        find_word(self.names.as_slice(), name).unwrap_or(self.names.len())
+        self.names.find(name).unwrap_or(self.names.len())
     }
 
     /// Gives a name its place; one that hasn't appeared yet makes a session.
-    fn seat(&mut self, name: Text) -> Result<(), AllocError>
+    fn add_session(&mut self, name: Text) -> Result<(), AllocError>
         requires sound { IsSound self.old }
-        requires room { spec.seat_of self.old name < 64 }
-        ensures seated { OnOk result (self.new ≡ spec.seated self.old name) }
+        requires room { spec.session_place self.old name < 64 }
+        ensures added { OnOk result (self.new ≡ spec.with_session self.old name) }
         ensures sound { OnOk result (IsSound self.new) }
-        ensures placed { OnOk result (spec.seat_of self.old name < length self.new.sessions) }
+        ensures placed { OnOk result (spec.session_place self.old name < length self.new.sessions) }
         ensures shared { self.new.shared ≡ self.old.shared }
     {
-        let who = self.seat_of(&name);
+        let who = self.session_place(&name);
         if who < self.names.len() {
             return Ok(());
         }
@@ -188,7 +188,7 @@ impl World<Shared> {
         };
         take_turn_at(
             alloc,
-            self.definitions.as_slice(),
+            &self.definitions,
             self.names.as_slice(),
             shared,
             &mut self.sessions,
@@ -231,11 +231,11 @@ impl World<Shared> {
         ensures answered { HasAnswered result out.old.items out.new.items self.new (spec.session_answered by_objects self.old name command) }
         ensures sound { OnOk result (IsSound self.new) }
     {
-        let who = self.seat_of(&name);
+        let who = self.session_place(&name);
         if who >= 64 {
             return refuse(alloc, out, &no_session());
         }
-        self.seat(name)?;
+        self.add_session(name)?;
         self.command(alloc, who, command, out)
     }
 

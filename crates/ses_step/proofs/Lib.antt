@@ -1,3 +1,4 @@
 mod Integers
 mod Texts
+mod FirstPlaces
 pub mod Mapping

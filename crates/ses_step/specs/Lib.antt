@@ -1,4 +1,5 @@
 pub mod Words
+pub mod NameIndex
 pub mod Lines
 pub mod Answers
 pub mod Sessions

@@ -24,9 +24,13 @@ abbrev pub begins_with : (ℕ → Bool) → List ℕ → Bool
 begins_with test [] = false
 begins_with test (b ∷ bs) = test b
 
+-- a word with small letters for its capital ones
+abbrev pub lowercase : List ℕ → List ℕ
+lowercase word = map to_ascii_lowercase word
+
 -- words are compared without regard to case
 abbrev pub same_word : List ℕ → List ℕ → Bool
-same_word a b = bytes_eq (map to_ascii_lowercase a) (map to_ascii_lowercase b)
+same_word a b = bytes_eq (lowercase a) (lowercase b)
 
 -- the words that stand for themselves and are no names
 abbrev pub reserved_words : List (List ℕ)

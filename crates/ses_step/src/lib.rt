@@ -4,11 +4,13 @@
 
 mod answer;
 mod line;
+mod names;
 mod session;
 mod word;
 
 pub use answer::{Answer, Detail, Refusal, append_line};
 pub use line::{Command, Line, read_line};
+pub use names::Names;
 pub use session::{Begun, Session, View, name_at};
 pub use std::alloc::AllocError as NoMemory;
-pub use word::{find_word, is_same_word};
+pub use word::is_same_word;

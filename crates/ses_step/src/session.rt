@@ -6,7 +6,7 @@ ghost use Rattle.ses_step.specs.Sessions as spec;
 
 use crate::answer::{Answer, Refusal};
 use crate::line::Command;
-use crate::word::find_word;
+use crate::names::Names;
 use aw_cell::{Cell, Text};
 use aw_lists::List;
 use mv_core::{Change, Entry, Fresh, Reply};
@@ -185,10 +185,10 @@ impl Session {
         Session { who, views: None }
     }
 
-    fn located(&self, definitions: &[Text], name: &Text) -> Result<View, Refusal>
+    fn located(&self, definitions: &Names, name: &Text) -> Result<View, Refusal>
         ensures { result ≡ spec.located definitions.now self.now name.now }
     {
-        let Some(object) = find_word(definitions, name) else {
+        let Some(object) = definitions.find(name) else {
             return Err(Refusal::no_form());
         };
         let Some(views) = &self.views else {
@@ -217,7 +217,7 @@ impl Session {
         }
     }
 
-    fn acquire(&self, definitions: &[Text], name: &Text) -> Begun
+    fn acquire(&self, definitions: &Names, name: &Text) -> Begun
         ensures { (result, self.now) ≡ spec.begun definitions.now self.now (Acquire name.now) }
     {
         match self.located(definitions, name) {
@@ -230,7 +230,7 @@ impl Session {
         }
     }
 
-    fn assign(&mut self, definitions: &[Text], name: &Text, value: i32) -> Begun
+    fn assign(&mut self, definitions: &Names, name: &Text, value: i32) -> Begun
         ensures { (result, self.new) ≡ spec.begun definitions.now self.old (Assign name.now value) }
     {
         match self.located(definitions, name) {
@@ -271,7 +271,7 @@ impl Session {
         }))
     }
 
-    fn show(&self, definitions: &[Text], name: &Text) -> Begun
+    fn show(&self, definitions: &Names, name: &Text) -> Begun
         ensures { (result, self.now) ≡ spec.begun definitions.now self.now (Show name.now) }
     {
         match self.located(definitions, name) {
@@ -290,7 +290,7 @@ impl Session {
     pub fn begin(
         &mut self,
         alloc: Global,
-        definitions: &[Text],
+        definitions: &Names,
         command: &Command,
     ) -> Result<Begun, AllocError>
         ensures begun { IfOk result (λ begun.
@@ -399,12 +399,16 @@ mod tests {
         command: &Command,
         reply: &Reply,
     ) -> Result<(Answer, Option<Entry>), Fail> {
-        let definitions = [text(b"v")?, text(b"w")?];
+        let mut definitions = Names::new(alloc);
+        for name in [text(b"v")?, text(b"w")?] {
+            definitions.push(name)?;
+        }
         let names = [text(b"a")?, text(b"b")?];
         match session.begin(alloc, &definitions, command)? {
             Begun::Said(answer) => Ok((answer, None)),
             Begun::Ask(asked) => {
-                let answer = session.finish(alloc, &definitions, &names, &asked, reply)?;
+                let definitions = definitions.as_slice();
+                let answer = session.finish(alloc, definitions, &names, &asked, reply)?;
                 Ok((answer, Some(asked)))
             }
         }

@@ -2,7 +2,6 @@ ghost use Rattle.std.specs.Prelude.{◌≡◌, ◌==◌, map, position, IfOk};
 ghost use Rattle.std.specs.List.{list_all, list_any, slice_split};
 ghost use Rattle.ses_step.specs.Words as spec;
 
-use aw_cell::Text;
 use std::alloc::{AllocError, Global};
 
 /// The words that stand for themselves, and so name no object.
@@ -120,30 +119,4 @@ pub fn words(alloc: Global, text: &[u8]) -> Result<Vec<&[u8]>, AllocError>
     text.split(|byte| is_blank(*byte))
         .filter(|word| !word.is_empty())
         .collect(alloc)
-}
-
-/// The first place of a word in a list of words, from 0 and without regard to case, or `None` where
-/// it isn't there.
-pub fn find_word(all: &[Text], word: &Text) -> Option<usize>
-    ensures { result ≡ spec.place_of all.now word.now }
-{
-    all.iter()
-        .position(|other| is_same_word(word.bytes(), other.bytes()))
-}
-
-#[cfg(test)]
-mod tests {
-    use super::*;
-    use std::test::Fail;
-
-    #[test]
-    fn finds_words_without_regard_to_case(rt: HostRuntime) -> Result<(), Fail> {
-        let all = [
-            Text::of(b"sales").ok_or("no text")?,
-            Text::of(b"Cost.1").ok_or("no text")?,
-        ];
-        let word = Text::of(b"COST.1").ok_or("no text")?;
-        assert_eq!(rt; find_word(&all, &word), Some(1));
-        Ok(())
-    }
 }

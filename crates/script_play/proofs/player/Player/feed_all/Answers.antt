@@ -1,4 +1,4 @@
-use Rattle.std.proofs.Common.{◌≡◌, ◌<◌, ◌+◌, ◌∙◌, ◌++◌, List, ℕ, length, take, drop, sym, ap, subst, arith, take-append-drop}
+use Rattle.std.proofs.Common.{◌<◌, ◌+◌, ◌∙◌, ◌++◌, List, ℕ, length, drop, sym, ap, subst, arith, take-append-drop}
 use Rattle.std.proofs.lemmas.List.{take_more}
 use Rattle.script_play.specs.Playing.{StopsIn}
 use Rattle.script_play.specs.Players.{play_of}
