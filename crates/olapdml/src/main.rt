@@ -47,10 +47,16 @@ fn tell(rt: &impl Print, text: &str) -> u8 {
     }
 }
 
+/// The status of a run that found no memory for its words.
+const NO_MEMORY: u8 = 6;
+
 fn main(rt: HostRuntime) -> ExitCode {
-    // Words that can't be read are no command.
     let words = match words(&rt) {
         Ok(words) => words,
+        Err(error) if error.kind() == io::ErrorKind::OutOfMemory => {
+            return ExitCode::from(NO_MEMORY);
+        }
+        // Words that aren't UTF-8 are no command.
         Err(_) => Vec::new(rt.alloc()),
     };
     let status = match words.as_slice() {
