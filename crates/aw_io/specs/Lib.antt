@@ -1,4 +1,3 @@
-pub mod Faults
 pub mod Known
 pub mod MemSink
 pub mod MemSource

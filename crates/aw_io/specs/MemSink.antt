@@ -2,7 +2,7 @@
 use Rattle.std.specs.Prelude.{ℕ, List, ◌++◌, take}
 use Rattle.aw_io.specs.declared.sink.Gave.{Gave}
 use Rattle.aw_io.specs.declared.sink.Gave.TheVariants.{Put, Failed}
-use Rattle.aw_io.specs.Faults.{next_count}
+use Rattle.aw_lists.specs.Faults.{next_count}
 
 -- the bytes written, the numbers of the calls that fail, the number of the next call, and the faults
 pub record MemSinkState : Type 0 where

@@ -2,7 +2,7 @@
 use Rattle.std.specs.Prelude.{ℕ, List, drop}
 use Rattle.aw_io.specs.declared.source.Took.{Took}
 use Rattle.aw_io.specs.declared.source.Took.TheVariants.{Got, End, Failed}
-use Rattle.aw_io.specs.Faults.{next_count}
+use Rattle.aw_lists.specs.Faults.{next_count}
 
 -- the bytes left to give, the numbers of the calls that fail, the number of the next call, and the faults
 pub record MemSourceState : Type 0 where

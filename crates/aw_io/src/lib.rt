@@ -3,7 +3,6 @@
 #![tactic(auto)]
 
 mod copying;
-mod failing;
 mod mem_sink;
 mod mem_source;
 mod sink;

@@ -1,11 +1,10 @@
 ghost use Rattle.std.specs.Prelude.{◌≡◌, ◌<◌, ◌≤◌, ℕ, Some, length, Contains};
 ghost use Rattle.aw_io.specs.Sink.{Puts};
-ghost use Rattle.aw_io.specs.Faults.{Rose};
+ghost use Rattle.aw_lists.specs.Faults.{Rose};
 ghost use Rattle.aw_io.specs.MemSink.{after_put};
 
-use crate::failing::FailingCalls;
 use crate::sink::{Gave, Sink};
-use aw_lists::List;
+use aw_lists::{FailingCalls, List};
 use std::marker::Model;
 
 /// A sink into memory that fails at listed calls, which are counted from 0, and where it finds no

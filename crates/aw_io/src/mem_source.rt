@@ -1,12 +1,11 @@
 ghost use Rattle.std.specs.Prelude.{◌≡◌, ◌<◌, ◌≤◌, ◌↔◌, ℕ, Some, length, min, Contains};
 ghost use Rattle.aw_io.specs.Source.{Takes};
-ghost use Rattle.aw_io.specs.Faults.{Rose};
+ghost use Rattle.aw_lists.specs.Faults.{Rose};
 ghost use Rattle.aw_io.specs.MemSource.{after_take};
 
-use crate::failing::FailingCalls;
 use crate::source::{Source, Took};
 use crate::sure_source::SureSource;
-use aw_lists::List;
+use aw_lists::{FailingCalls, List};
 use std::marker::Model;
 
 /// A source over bytes in memory that fails at listed calls, which are counted from 0.

@@ -1,5 +1,5 @@
 ghost use Rattle.std.specs.Prelude.{◌≡◌, ℕ, ◌<◌, ◌≤◌, List, length, Option, [], IsOk, OnOk, OnErr};
-ghost use Rattle.aw_io.specs.Faults.{Rose};
+ghost use Rattle.aw_lists.specs.Faults.{Rose};
 ghost use Rattle.aw_io.specs.Known.{Grows, GrowsByFront};
 ghost use Rattle.aw_io.specs.Sink.{Puts};
 

@@ -1,5 +1,5 @@
 ghost use Rattle.std.specs.Prelude.{◌≡◌, ℕ, ◌<◌, ◌≤◌, List, length, Option};
-ghost use Rattle.aw_io.specs.Faults.{Rose};
+ghost use Rattle.aw_lists.specs.Faults.{Rose};
 ghost use Rattle.aw_io.specs.Source.{Takes};
 
 /// The answer of [`Source::take`].

@@ -1,5 +1,5 @@
 ghost use Rattle.std.specs.Prelude.{◌≡◌, ◌<◌, ◌≤◌, None, length};
-ghost use Rattle.aw_io.specs.Faults.{Rose};
+ghost use Rattle.aw_lists.specs.Faults.{Rose};
 ghost use Rattle.aw_io.specs.Source.{Takes};
 ghost use Rattle.aw_io.specs.StdSource.{Reads, reader_of, faults_of};
 

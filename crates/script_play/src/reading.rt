@@ -1,5 +1,5 @@
 ghost use Rattle.std.specs.Prelude.{◌≡◌, ◌≤◌, ◌<◌, length, OnOk, Err};
-ghost use Rattle.aw_io.specs.Faults.{Rose};
+ghost use Rattle.aw_lists.specs.Faults.{Rose};
 ghost use Rattle.script_play.specs.declared.ending.Ending.TheVariants as ending;
 ghost use Rattle.script_play.specs.Sound.{IsSound};
 ghost use Rattle.script_play.specs.Playing.{fresh_play};

@@ -1,6 +1,6 @@
 ghost use Rattle.std.specs.Prelude.{◌≡◌, ◌<◌, ◌≤◌, IfOk, IsTrue, false, length, vec_len};
 ghost use Rattle.script_play.specs.Playing.{fresh_play};
-ghost use Rattle.aw_io.specs.Faults.{Rose};
+ghost use Rattle.aw_lists.specs.Faults.{Rose};
 ghost use Rattle.script_play.specs.declared.ending.Ending.TheVariants as ending;
 ghost use Rattle.script_play.specs.Ends as spec;
 ghost use Rattle.script_play.specs.Sound.{IsSound};

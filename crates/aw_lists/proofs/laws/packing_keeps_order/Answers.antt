@@ -1,0 +1,5 @@
+use Rattle.aw_lists.proofs.PackingOrder.{packs_in_order}
+use Rattle.aw_lists.proofs.laws.packing_keeps_order.Goals as goal
+
+pub returns : goal.returns
+returns c = packs_in_order
