@@ -1,5 +1,15 @@
+pub mod Arithmetic
 pub mod Cell
+pub mod CellArithmetic
+pub mod CellText
+pub mod Comparison
+pub mod Laws
+pub mod Logic
+pub mod Names
 pub mod Number
+pub mod Numeral
+pub mod NumeralRead
+pub mod Rounding
 pub mod SameCell
 pub mod Text
 pub mod TextInside

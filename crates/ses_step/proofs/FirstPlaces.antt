@@ -11,7 +11,7 @@ use Rattle.std.proofs.lemmas.List.Folds.{position_or_len_push}
 use Rattle.std.proofs.lemmas.Bool.{cases_Bool}
 use mathlib.Core.Logic.{⊎_elim}
 use Rattle.std.proofs.lemmas.List.Sums.{prefix_len-le-length}
-use Rattle.ses_step.specs.Words.{lowercase}
+use Rattle.aw_cell.specs.Names.{lowercase}
 use Rattle.ses_step.specs.NameIndex.{first_place, HasFirstPlaces}
 
 -- whether two keys are the same bytes

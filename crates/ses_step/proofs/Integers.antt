@@ -9,7 +9,7 @@ use Rattle.std.proofs.lemmas.Bool.Decides.{nat_tests}
 use Rattle.std.proofs.lemmas.Fmt.{IsAscii-from_digits}
 use Rattle.std.proofs.lemmas.Str.{IsUtf8-from_ascii}
 use Rattle.std.proofs.lemmas.Str.Parse.{IsNumeralModel, numerals_by_value, parse_signed_digits}
-use Rattle.ses_step.specs.Words.{is_digit}
+use Rattle.aw_cell.specs.Names.{is_digit}
 use Rattle.ses_step.specs.Lines.{integer_in}
 
 digits_tested : IsNumeralModel (λ bytes. list_all is_digit bytes ≡ true) (digits_value 10)

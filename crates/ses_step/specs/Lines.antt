@@ -8,7 +8,8 @@ use Rattle.ses_step.specs.declared.line.Line.{Line}
 use Rattle.ses_step.specs.declared.line.Line.TheVariants.{Blank, Malformed, Definition, Session}
 use Rattle.ses_step.specs.declared.line.Command.{Command}
 use Rattle.ses_step.specs.declared.line.Command.TheVariants.{Attach, Acquire, Assign, Update, Commit, Show}
-use Rattle.ses_step.specs.Words.{is_blank, is_digit, is_word_byte, begins_with, same_word, is_name, is_session_name, before_comment, words}
+use Rattle.aw_cell.specs.Names.{is_digit, is_word_byte, begins_with, same_word, is_name}
+use Rattle.ses_step.specs.Words.{is_blank, is_session_name, before_comment, words}
 
 -- a tab, or from the blank to the tilde
 abbrev pub is_line_byte : ℕ → Bool

@@ -3,7 +3,7 @@ use Rattle.std.specs.Prelude.{ℕ, ◌≡◌, List, position, Option}
 use Rattle.std.specs.Global.{Vec}
 use Rattle.std.specs.HashMap.{HashMap, get_by}
 use Rattle.std.specs.Str.{bytes_eq}
-use Rattle.ses_step.specs.Words.{lowercase}
+use Rattle.aw_cell.specs.Names.{lowercase}
 
 -- the first place of a name whose lower case is this key
 abbrev pub first_place : List (List ℕ) → List ℕ → Option ℕ

@@ -13,4 +13,3 @@ pub use line::{Command, Line, read_line};
 pub use names::Names;
 pub use session::{Begun, Session, View, name_at};
 pub use std::alloc::AllocError as NoMemory;
-pub use word::is_same_word;

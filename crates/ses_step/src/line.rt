@@ -1,14 +1,13 @@
 ghost use Rattle.std.specs.Prelude.{◌≡◌, IfOk, IsTrue, map};
 ghost use Rattle.std.specs.List.{list_all, prefix_len};
 ghost use Rattle.aw_cell.specs.Text.{is_text};
-ghost use Rattle.ses_step.specs.Words.{is_blank, is_digit, is_word_byte};
+ghost use Rattle.aw_cell.specs.Names.{is_digit, is_word_byte};
+ghost use Rattle.ses_step.specs.Words.{is_blank};
 ghost use Rattle.ses_step.specs.Lines as spec;
 ghost use Rattle.ses_step.specs.Lines.{line_form};
 
-use crate::word::{
-    before_comment, is_blank, is_name, is_same_word, is_session_name, is_word_byte, words,
-};
-use aw_cell::Text;
+use crate::word::{before_comment, is_blank, is_session_name, words};
+use aw_cell::{Text, is_name, is_same_word, is_word_byte};
 use std::alloc::{AllocError, Global};
 
 /// What a session asks for in a line (docs/LANGUAGE.md, "Statements"). Names stand as they were

@@ -1,7 +1,8 @@
 use Rattle.std.specs.Prelude.{take, drop}
 use Rattle.std.specs.List.{prefix_len}
 use Rattle.std.proofs.lemmas.Bool.{and_parts}
-use Rattle.ses_step.specs.Words.{is_session_name, is_word_byte}
+use Rattle.aw_cell.specs.Names.{is_word_byte}
+use Rattle.ses_step.specs.Words.{is_session_name}
 use Rattle.ses_step.specs.Lines.{begins_with_colon}
 use Rattle.ses_step.proofs.Texts.{is_text-session_name}
 use Rattle.ses_step.proofs.line.session_line.Goals as goal

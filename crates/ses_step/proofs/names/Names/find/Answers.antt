@@ -1,5 +1,5 @@
 use Rattle.std.proofs.Common.{rules, ◌≡◌, ◌∙◌}
-use Rattle.ses_step.specs.Words.{lowercase}
+use Rattle.aw_cell.specs.Names.{lowercase}
 use Rattle.ses_step.proofs.names.Names.find.Goals as goal
 
 pub returns : goal.returns

@@ -2,7 +2,7 @@ use Rattle.std.proofs.Common.{rules, ◌≡◌, true, false, length}
 use Rattle.std.specs.Prelude.{is_some}
 use Rattle.std.specs.Str.{bytes_eq}
 use Rattle.std.specs.HashMap.{get_by}
-use Rattle.ses_step.specs.Words.{lowercase}
+use Rattle.aw_cell.specs.Names.{lowercase}
 use Rattle.ses_step.proofs.FirstPlaces.{places-another, places-first}
 use Rattle.ses_step.proofs.names.Names.push.Goals as goal
 use Rattle.ses_step.proofs.names.Names.push.Goals.{then-not-contains_key+in_ok-insert, else-not-contains_key}
