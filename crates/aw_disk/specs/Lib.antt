@@ -1,0 +1,10 @@
+pub mod Calls
+pub mod Covered
+pub mod FileDisk
+pub mod Held
+pub mod Images
+pub mod MemDisk
+pub mod Moments
+pub mod Picked
+pub mod Replay
+pub mod SureDisk
