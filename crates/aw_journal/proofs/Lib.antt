@@ -1,0 +1,8 @@
+pub mod Frames
+pub mod Steps
+pub mod Torn
+pub mod Standing
+pub mod Reading
+pub mod Loading
+pub mod Unique
+pub mod Each
