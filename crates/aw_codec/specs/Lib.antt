@@ -1,0 +1,6 @@
+pub mod Formats
+pub mod Records
+pub mod RecordFormat
+pub mod Reading
+pub mod Decoding
+pub mod Laws

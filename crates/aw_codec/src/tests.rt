@@ -1,0 +1,103 @@
+use super::*;
+use aw_cell::{Cell, Text};
+use aw_lists::List;
+use std::test::Fail;
+
+const DEFINES_V: [u8; 9] = [0x44, 1, 0, 1, 1, 0x76, 3, 2, 0];
+
+const SETS_V: [u8; 17] = [0x43, 1, 0, 1, 0, 0, 0x4d, 0, 0, 0, 0, 1, 2, 0, 0, 0, 7];
+
+#[test]
+fn spells_and_reads_definitions(rt: HostRuntime) -> Result<(), Fail> {
+    let alloc = rt.alloc();
+    let mut names = List::new(alloc);
+    names.push(Text::of(b"v").ok_or("a text")?)?;
+    let bytes = encode_catalogue(alloc, &names).ok().ok_or("memory")?;
+    assert_eq!(rt; bytes.as_slice(), DEFINES_V.as_slice());
+    let found = decode(alloc, &DEFINES_V).ok().ok_or("a record")?;
+    assert!(rt; found == Decoded::Definitions(names));
+    Ok(())
+}
+
+#[test]
+fn spells_and_reads_a_commit(rt: HostRuntime) -> Result<(), Fail> {
+    let alloc = rt.alloc();
+    let mut changes = List::new(alloc);
+    changes.push((0, Cell::Int(7)))?;
+    let bytes = encode_commit(alloc, &changes).ok().ok_or("memory")?;
+    assert_eq!(rt; bytes.as_slice(), SETS_V.as_slice());
+    let found = decode(alloc, &SETS_V).ok().ok_or("a record")?;
+    assert!(rt; found == Decoded::Commit(changes));
+    Ok(())
+}
+
+#[test]
+fn finds_the_fault_of_definitions(rt: HostRuntime) {
+    let cases: [(&[u8], u64); 19] = [
+        (b"", 0),
+        (b"E", 0),
+        (b"D", 1),
+        (b"D\x02", 1),
+        (b"D\x01\x00", 2),
+        (b"D\x01\x00\x00!", 4),
+        (b"D\x01\x00\x01", 4),
+        (b"D\x01\x00\x01\x00", 4),
+        (b"D\x01\x00\x01\x41", 4),
+        (b"D\x01\x00\x01\x02v", 5),
+        (b"D\x01\x00\x01\x011\x03\x02\x00", 5),
+        (b"D\x01\x00\x01\x02na\x03\x02\x00", 5),
+        (b"D\x01\x00\x01\x01v", 6),
+        (b"D\x01\x00\x01\x01v\x02", 6),
+        (b"D\x01\x00\x01\x01v\x03\x01", 7),
+        (b"D\x01\x00\x01\x01v\x03\x02\x01", 8),
+        (b"D\x01\x00\x01\x01v\x03\x02\x00\x00", 9),
+        (b"D\x01\x00\x02\x01v\x03\x02\x00", 9),
+        (b"D\x01\x00\x02\x01v\x03\x02\x00\x03no1\x03\x02", 15),
+    ];
+    for (bytes, offset) in cases {
+        assert!(rt; decode(rt.alloc(), bytes) == Err(BadRecord::At(offset)));
+    }
+}
+
+#[test]
+fn finds_the_fault_of_a_commit(rt: HostRuntime) {
+    let cases: [(&[u8], u64); 19] = [
+        (b"C\x00", 1),
+        (b"C\x01\x00", 2),
+        (b"C\x01\x00\x00", 2),
+        (b"C\x01\x00\x01\x00", 4),
+        (b"C\x01\x00\x01\x00\x00", 6),
+        (b"C\x01\x00\x01\x00\x00L", 6),
+        (b"C\x01\x00\x01\x00\x00M\x01", 7),
+        (b"C\x01\x00\x01\x00\x00M\x00\x00\x00\x00", 8),
+        (b"C\x01\x00\x01\x00\x00M\x00\x00\x00\x00\x00", 8),
+        (b"C\x01\x00\x01\x00\x00M\x00\x00\x00\x00\x01\x01", 12),
+        (
+            b"C\x01\x00\x01\x00\x00M\x00\x00\x00\x00\x01\x02\x00\x00\x00",
+            13,
+        ),
+        (
+            b"C\x01\x00\x01\x00\x00M\x00\x00\x00\x00\x01\x02\x80\x00\x00\x00",
+            13,
+        ),
+        (b"C\x01\x00\x01\x00\x00M\x00\x00\x00\x00\x01\x00\x00", 13),
+        (b"C\x01\x00\x01\x00\x00M\x00\x00\x00\x00\x02\x00", 13),
+        (b"C\x01\x00\x01\x00\x00M\x00\x00\x00\x00\x02\x00\x00", 13),
+        (
+            b"C\x01\x00\x01\x00\x00M\x00\x00\x00\x00\x02\x02\x00\x00\x00\x07\x02\x00\x00\x00\x07",
+            17,
+        ),
+        (b"C\x01\x00\x02\x00\x00M\x00\x00\x00\x00\x01\x00\x00", 13),
+        (
+            b"C\x01\x00\x02\x00\x00M\x00\x00\x00\x00\x01\x00\x00\x00M",
+            13,
+        ),
+        (
+            b"C\x01\x00\x02\x00\x01M\x00\x00\x00\x00\x01\x00\x00\x00M",
+            13,
+        ),
+    ];
+    for (bytes, offset) in cases {
+        assert!(rt; decode(rt.alloc(), bytes) == Err(BadRecord::At(offset)));
+    }
+}
