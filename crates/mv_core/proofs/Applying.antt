@@ -1,9 +1,10 @@
 -- Changes that a commit is granted can be made one after the other, and make of the objects what the commit does.
 use Rattle.std.proofs.Common.{◌≡◌, ◌∙◌, ℕ, zero, suc, ◌+◌, ◌<◌, ◌≤◌, ◌≢◌, ◌&&◌, Bool, true, false, cond, List, [], ◌∷◌, length, get_or, set, drop, find, Option, Some, None, option_map, slice_get, refl, sym, ap, ap₂, subst, arith, nat_le, eq-eqb, ne_eqb, leb-true, length-set, drop-cons, Fits, w64, leb-false}
 use Rattle.std.proofs.lemmas.Option.{slice_get-get_or}
+use Rattle.mv_core.specs.declared.entry.Reply.TheVariants.{Committed, Stranger, Worn}
 use Rattle.mv_core.specs.declared.object.Object.{Object}
 use Rattle.mv_core.specs.Generations.{Bodies, change_of}
-use Rattle.mv_core.specs.SharedStep.{is_own, is_worn, fits_object, may_change, first_stranger, first_worn, changed, committed_from}
+use Rattle.mv_core.specs.SharedStep.{is_own, is_worn, fits_object, may_change, first_stranger, first_worn, commit_reply, changed, committed_from}
 use Rattle.mv_core.specs.OwnerLaws.{cond-none, and-parts, own-within}
 use Rattle.mv_core.specs.Applying.{IsReady}
 
@@ -12,6 +13,11 @@ use Rattle.mv_core.specs.Applying.{IsReady}
 find-none : {A B : Type 0} (f : A → B) (b : Bool) (x : A) (rest : Option A) → option_map f (cond b (Some x) rest) ≡ None → (b ≡ false) × (option_map f rest ≡ None)
 find-none f true x rest none = cc
 find-none f false x rest none = (refl, none)
+
+nothing-stands : (stranger worn : Option ℕ) → elim stranger [ Some object ↦ Stranger object | None ↦ elim worn [ Some object ↦ Worn object | None ↦ Committed ] ] ≡ Committed → (stranger ≡ None) × (worn ≡ None)
+nothing-stands (Some object) worn committed = cc
+nothing-stands None (Some object) committed = cc
+nothing-stands None None committed = (refl, refl)
 
 slice_get-set_other : {A : Type 0} (xs : List A) (i k : ℕ) (x : A) → k ≢ i → slice_get (set xs k x) i ≡ slice_get xs i
 slice_get-set_other [] i k x differs = refl
@@ -31,6 +37,12 @@ module _ {Body C : Type 0} (bodies : Bodies Body C) where
       let own = and-parts (is_own who (slice_get objects object)) (fits_object bodies (slice_get objects object) c) rises.1 in
       let worn = find-none bodies.object (is_worn bodies (slice_get objects object)) c (find (λ d. is_worn bodies (slice_get objects (bodies.object d))) cs) fresh in
       (leb-true _ _ rises.0, own-within objects object who own.0, worn.0, IsReady-granted objects who (object + 1) cs first.1 worn.1)
+
+  -- and so are those of a commit that is granted
+  pub IsReady-committed : (objects : List (Object Body)) (who : ℕ) (changes : List C) → commit_reply bodies objects who changes ≡ Committed → IsReady bodies objects 0 changes
+  IsReady-committed objects who changes committed =
+      let free = nothing-stands (first_stranger bodies objects who 0 changes) (first_worn bodies objects changes) committed in
+      IsReady-granted objects who 0 changes free.0 free.1
 
   -- a write below the least object leaves the changes ready
   IsReady-set : (objects : List (Object Body)) (least : ℕ) (changes : List C) (k : ℕ) (it : Object Body) → k < least → IsReady bodies objects least changes → IsReady bodies (set objects k it) least changes

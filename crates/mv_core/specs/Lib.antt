@@ -2,6 +2,7 @@ pub mod Generations
 pub mod Owners
 pub mod Workspace
 pub mod Integers
+pub mod Prepared
 pub mod SharedStep
 pub mod GenerationLaws
 pub mod StandingLaws

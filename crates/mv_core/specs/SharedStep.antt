@@ -1,5 +1,5 @@
 -- The shared step: what an entry is answered, and what it leaves of the commits and the owners.
-use Rattle.std.specs.Prelude.{◌≡◌, ◌==◌, ◌+◌, ◌&&◌, ℕ, Bool, false, List, [], ◌∷◌, ◌++◌, find, Option, Some, None, slice_get, slice_set, nat_lt, nat_le, if◌then◌else◌, ◌⊎◌}
+use Rattle.std.specs.Prelude.{◌≡◌, ◌==◌, ◌+◌, ◌&&◌, ℕ, Bool, true, false, List, [], ◌∷◌, ◌++◌, find, Option, Some, None, slice_get, slice_set, nat_lt, nat_le, if◌then◌else◌, ◌⊎◌}
 use Rattle.std.specs.Option.{option_map}
 use Rattle.aw_cell.specs.declared.cell.Cell.{Cell}
 use Rattle.mv_core.specs.declared.entry.Change.{Change}
@@ -84,6 +84,10 @@ abbrev pub fresh_from : ℕ → List (Object Cell) → List Fresh
 fresh_from at [] = []
 fresh_from at (it ∷ objects) = (record { object = at; number = it.number; cell = it.body }) ∷ fresh_from (at + 1) objects
 
+-- an object with this latest generation, and without an owner
+abbrev pub restored : Fresh → Object Cell
+restored fresh = record { number = fresh.number; body = fresh.cell; owner = None }
+
 -- the reply to an entry, where the objects stand so
 abbrev pub reply_of : List (Object Cell) → Entry → Reply
 reply_of objects (Attach who) = Attached (fresh_from 0 objects)
@@ -94,6 +98,11 @@ reply_of objects (Commit who changes) = commit_reply integers objects who change
 abbrev pub history_after : List (List Change) → List Change → List (List Change)
 history_after history [] = history
 history_after history (c ∷ changes) = history ++ (c ∷ changes) ∷ []
+
+-- whether a reply to an entry makes new generations: that to a commit with changes that is granted
+abbrev pub writes : Entry → Reply → Bool
+writes (Commit who (c ∷ changes)) Committed = true
+writes _ _ = false
 
 -- a grant sets the owner, a commit joins the commits, and all else changes nothing
 abbrev pub workspace_after : Workspace Change → Entry → Reply → Workspace Change

@@ -1,5 +1,8 @@
+ghost use Rattle.std.specs.Prelude.{◌≡◌, IfOk};
+
 use aw_cell::Cell;
 use aw_lists::List;
+use std::alloc::{AllocError, Global};
 
 /// One object's part of a commit: the cell that it holds from then on.
 #[derive(Clone, Copy, Debug, PartialEq, Eq)]
@@ -27,6 +30,30 @@ pub enum Entry {
     Commit { who: u32, changes: List<Change> },
 }
 
+impl Entry {
+    /// An equal entry. The only error is want of memory.
+    pub(crate) fn copied(&self, alloc: Global) -> Result<Entry, AllocError>
+        ensures { IfOk result (λ entry. entry ≡ self.now) }
+    {
+        match self {
+            Entry::Attach { who } => Ok(Entry::Attach { who: *who }),
+            Entry::Acquire {
+                who,
+                object,
+                number,
+            } => Ok(Entry::Acquire {
+                who: *who,
+                object: *object,
+                number: *number,
+            }),
+            Entry::Commit { who, changes } => {
+                let changes = List::from_slice(alloc, changes.as_slice())?;
+                Ok(Entry::Commit { who: *who, changes })
+            }
+        }
+    }
+}
+
 /// What the shared state answers (docs/SHARING.md).
 #[derive(Debug, PartialEq, Eq, Drop)]
 pub enum Reply {
@@ -44,6 +71,8 @@ pub enum Reply {
     Stranger { object: u16 },
     /// The object has the last generation that can be numbered.
     Worn { object: u16 },
+    /// The disk failed, and no change is made. Only a store on a disk answers so.
+    Fault,
     /// There was no memory for the reply.
     NoMemory,
 }

@@ -4,10 +4,12 @@
 
 mod entry;
 mod object;
+mod ready;
 mod shared;
 mod table;
 
 pub use entry::{Change, Entry, Fresh, Reply};
 pub use object::Object;
+pub use ready::Ready;
 pub use shared::Shared;
 pub use std::alloc::AllocError as NoMemory;

@@ -1,14 +1,16 @@
-ghost use Rattle.std.specs.Prelude.{◌≡◌, ◌<◌, length, IfOk, IfSome, slice_get};
+ghost use Rattle.std.specs.Prelude.{◌≡◌, ◌<◌, length, map, IfOk, IfSome, slice_get};
 ghost use Rattle.mv_core.specs.declared.entry.Change.{Change};
 ghost use Rattle.mv_core.specs.Workspace.{Workspace, standing, opened};
 ghost use Rattle.mv_core.specs.Integers.{integers};
-ghost use Rattle.mv_core.specs.SharedStep.{IsLegal, IsAnswered};
+ghost use Rattle.mv_core.specs.SharedStep.{restored, reply_of, objects_after, IsLegal, IsAnswered};
 ghost use Rattle.mv_core.specs.Refusals.{IsKept, IsTrueNewer, IsTrueOwned};
 
-use crate::entry::{Entry, Reply};
+use crate::entry::{Entry, Fresh, Reply};
 use crate::object::Object;
-use crate::table::{acquire, commit, latest};
+use crate::ready::Ready;
+use crate::table::{acquire_reply, commit_reply, latest, settle};
 use aw_cell::Cell;
+use aw_lists::List;
 use std::alloc::{AllocError, Global};
 use std::marker::Model;
 
@@ -16,6 +18,17 @@ use std::marker::Model;
 #[derive(Debug, Drop)]
 pub struct Shared {
     objects: Vec<Object<Cell>>,
+}
+
+/// An object with this latest generation, and without an owner.
+fn restored(fresh: &Fresh) -> Object<Cell>
+    ensures { result ≡ restored fresh.now }
+{
+    Object {
+        number: fresh.number,
+        body: fresh.cell,
+        owner: None,
+    }
 }
 
 impl Model for Shared {
@@ -48,6 +61,17 @@ impl Shared {
         Ok(Shared { objects: made })
     }
 
+    /// Objects with these latest generations, in this order and without owners. The only error is
+    /// want of memory.
+    pub fn restored(latest: List<Fresh>) -> Result<Shared, AllocError>
+        requires { length latest < 65536 }
+        ensures { IfOk result (λ shared. shared ≡ map restored latest) }
+    {
+        let latest = latest.into_vec();
+        let objects = latest.iter().map(restored).collect(*latest.allocator())?;
+        Ok(Shared { objects })
+    }
+
     /// How many objects there are. Their numbers are those below.
     pub fn objects(&self) -> u16
         ensures { result ≡ length self.now }
@@ -64,9 +88,56 @@ impl Shared {
         (it.number, it.owner)
     }
 
+    /// The body of an object's latest generation.
+    pub fn body(&self, object: u16) -> Cell
+        requires { object < length self.now }
+        ensures { IfSome (slice_get self.now object) (λ it. result ≡ it.body) }
+    {
+        self.objects[usize::from(object)].body
+    }
+
+    /// Looks at an entry, and takes all memory that its answer needs. The only error is want of
+    /// memory.
+    pub fn prepare(&self, entry: &Entry) -> Result<Ready, AllocError>
+        ensures { IfOk result (λ ready. (ready.entry ≡ entry.now) × (ready.reply ≡ reply_of self.now entry.now)) }
+    {
+        let alloc = *self.objects.allocator();
+        let reply = self.reply(alloc, entry)?;
+        Ok(Ready::new(entry.copied(alloc)?, reply))
+    }
+
+    fn reply(&self, alloc: Global, entry: &Entry) -> Result<Reply, AllocError>
+        ensures { IfOk result (λ reply. reply ≡ reply_of self.now entry.now) }
+    {
+        match entry {
+            Entry::Attach { .. } => Ok(Reply::Attached(latest(alloc, &self.objects)?)),
+            Entry::Acquire {
+                who,
+                object,
+                number,
+            } => Ok(acquire_reply(&self.objects, *who, *object, *number)),
+            Entry::Commit { who, changes } => {
+                Ok(commit_reply(&self.objects, *who, changes.as_slice()))
+            }
+        }
+    }
+
+    /// Answers an entry that was looked at while the objects stood as they stand now, and does what
+    /// it asks for. Takes no memory.
+    pub fn settle(&mut self, ready: Ready) -> Reply
+        requires unchanged { ready.reply ≡ reply_of self.old ready.entry }
+        ensures reply { result ≡ ready.reply }
+        ensures objects { self.new ≡ objects_after self.old ready.entry ready.reply }
+        ensures length { length self.new ≡ length self.old }
+    {
+        let (entry, reply) = ready.into_parts();
+        settle(&mut self.objects, &entry, &reply);
+        reply
+    }
+
     /// Answers an entry: a session gets an object that nobody owns where it has the latest
-    /// generation of it, and commits changes to objects of its own. Only an `Attach` takes memory.
-    /// The rules are those of docs/SHARING.md.
+    /// generation of it, and commits changes to objects of its own. The rules are those of
+    /// docs/SHARING.md.
     pub fn act(&mut self, entry: &Entry) -> Reply
         ensures step { (w : Workspace Change) → self.old ≡ standing integers w
             → IsLegal w entry.now result self.new }
@@ -83,17 +154,9 @@ impl Shared {
     fn answer(&mut self, entry: &Entry) -> Reply
         ensures { IsAnswered self.old entry.now result self.new }
     {
-        match entry {
-            Entry::Attach { .. } => match latest(*self.objects.allocator(), &self.objects) {
-                Ok(fresh) => Reply::Attached(fresh),
-                Err(_) => Reply::NoMemory,
-            },
-            Entry::Acquire {
-                who,
-                object,
-                number,
-            } => acquire(&mut self.objects, *who, *object, *number),
-            Entry::Commit { who, changes } => commit(&mut self.objects, *who, changes.as_slice()),
+        match self.prepare(entry) {
+            Ok(ready) => self.settle(ready),
+            Err(_) => Reply::NoMemory,
         }
     }
 }
@@ -101,8 +164,7 @@ impl Shared {
 #[cfg(test)]
 mod tests {
     use super::*;
-    use crate::entry::{Change, Fresh};
-    use aw_lists::List;
+    use crate::entry::Change;
     use std::test::Fail;
 
     fn acquire_of(who: u32, object: u16, number: u64) -> Entry {
@@ -193,11 +255,45 @@ mod tests {
         Ok(())
     }
 
+    #[test]
+    fn restored_objects_go_on_from_their_numbers(rt: HostRuntime) -> Result<(), Fail> {
+        let latest = Fresh {
+            object: 0,
+            number: 7,
+            cell: Cell::Int(5),
+        };
+        let shared = Shared::restored(List::from_slice(rt.alloc(), &[latest])?)?;
+        assert_eq!(rt; shared.objects(), 1);
+        assert_eq!(rt; shared.look(0), (7, None));
+        assert_eq!(rt; shared.body(0), Cell::Int(5));
+        Ok(())
+    }
+
+    #[test]
+    fn an_entry_is_prepared_and_settled_later(rt: HostRuntime) -> Result<(), Fail> {
+        let mut shared = Shared::new(rt.alloc(), 1)?;
+        let ready = shared.prepare(&acquire_of(1, 0, 1))?;
+        assert!(rt; !ready.writes());
+        assert_eq!(rt; shared.look(0), (1, None));
+        assert_eq!(rt; shared.settle(ready), Reply::Acquired);
+        assert_eq!(rt; shared.look(0), (1, Some(1)));
+        let ready = shared.prepare(&commit_of(rt.alloc(), 1, &[(0, Cell::Int(5))])?)?;
+        assert!(rt; ready.writes());
+        assert_eq!(rt; shared.look(0), (1, Some(1)));
+        assert_eq!(rt; shared.settle(ready), Reply::Committed);
+        assert_eq!(rt; shared.look(0), (2, Some(1)));
+        let ready = shared.prepare(&commit_of(rt.alloc(), 1, &[])?)?;
+        assert!(rt; !ready.writes());
+        Ok(())
+    }
+
     fn needs_send_and_sync<T: Send + Sync + Drop>(_: T) {}
 
     #[test]
     fn goes_to_another_thread(rt: HostRuntime) -> Result<(), Fail> {
-        needs_send_and_sync(Shared::new(rt.alloc(), 0)?);
+        let shared = Shared::new(rt.alloc(), 0)?;
+        needs_send_and_sync(shared.prepare(&Entry::Attach { who: 1 })?);
+        needs_send_and_sync(shared);
         needs_send_and_sync(Entry::Attach { who: 1 });
         needs_send_and_sync(Reply::Acquired);
         Ok(())

@@ -1,10 +1,11 @@
 ghost use Rattle.std.specs.Prelude.{◌≡◌, ◌≤◌, length, IfOk, slice_get};
 ghost use Rattle.mv_core.specs.declared.entry.Entry.TheVariants.{Acquire, Commit};
-ghost use Rattle.mv_core.specs.Integers.{integers, is_integer};
-ghost use Rattle.mv_core.specs.SharedStep.{is_worn, may_change, first_stranger, first_worn, fresh_from, committed_from, reply_of, objects_after};
+ghost use Rattle.aw_cell.specs.Cell.{is_integer_cell};
+ghost use Rattle.mv_core.specs.Integers.{integers};
+ghost use Rattle.mv_core.specs.SharedStep.{is_worn, may_change, first_stranger, first_worn, fresh_from, committed_from, granted, reply_of, objects_after};
 ghost use Rattle.mv_core.specs.Applying.{IsReady};
 
-use crate::entry::{Change, Fresh, Reply};
+use crate::entry::{Change, Entry, Fresh, Reply};
 use crate::object::Object;
 use aw_cell::Cell;
 use aw_lists::List;
@@ -26,32 +27,27 @@ pub fn latest(alloc: Global, objects: &[Object<Cell>]) -> Result<List<Fresh>, Al
     Ok(List::from_vec(latest))
 }
 
-/// Answers an `Acquire`, and sets the owner where it is granted.
-pub fn acquire(objects: &mut [Object<Cell>], who: u32, object: u16, number: u64) -> Reply
-    ensures reply { result ≡ reply_of objects.old (Acquire who object number) }
-    ensures objects { objects.new ≡ objects_after objects.old (Acquire who object number) result }
+/// The reply to an `Acquire`.
+pub fn acquire_reply(objects: &[Object<Cell>], who: u32, object: u16, number: u64) -> Reply
+    ensures { result ≡ reply_of objects.now (Acquire who object number) }
 {
     if usize::from(object) >= objects.len() {
         return Reply::Stranger { object };
     }
-    let it = &mut objects[usize::from(object)];
+    let it = &objects[usize::from(object)];
     match it.owner {
         Some(by) if by != who => Reply::Owned { object, by },
         None if number < it.number => Reply::Newer {
             object,
             number: it.number,
         },
-        _ => {
-            it.owner = Some(who);
-            Reply::Acquired
-        }
+        _ => Reply::Acquired,
     }
 }
 
-/// Answers a `Commit`, and makes its changes where it is granted.
-pub fn commit(objects: &mut [Object<Cell>], who: u32, changes: &[Change]) -> Reply
-    ensures reply { result ≡ reply_of objects.old (Commit who changes.now) }
-    ensures objects { objects.new ≡ objects_after objects.old (Commit who changes.now) result }
+/// The reply to a `Commit`.
+pub fn commit_reply(objects: &[Object<Cell>], who: u32, changes: &[Change]) -> Reply
+    ensures { result ≡ reply_of objects.now (Commit who changes.now) }
 {
     if let Some(object) = first_stranger(objects, who, changes) {
         return Reply::Stranger { object };
@@ -59,12 +55,33 @@ pub fn commit(objects: &mut [Object<Cell>], who: u32, changes: &[Change]) -> Rep
     if let Some(object) = first_worn(objects, changes) {
         return Reply::Worn { object };
     }
-    apply(objects, changes);
     Reply::Committed
 }
 
-fn is_integer(cell: &Cell) -> bool
-    ensures { result ≡ is_integer cell.now }
+/// Does what an entry that is granted asks for.
+pub fn settle(objects: &mut [Object<Cell>], entry: &Entry, reply: &Reply)
+    requires { reply.now ≡ reply_of objects.old entry.now }
+    ensures { objects.new ≡ objects_after objects.old entry.now reply.now }
+{
+    match (entry, reply) {
+        (Entry::Acquire { who, object, .. }, Reply::Acquired) => grant(objects, *object, *who),
+        (Entry::Commit { changes, .. }, Reply::Committed) => apply(objects, changes.as_slice()),
+        _ => {}
+    }
+}
+
+fn grant(objects: &mut [Object<Cell>], object: u16, who: u32)
+    ensures { objects.new ≡ granted integers objects.old object who }
+{
+    if usize::from(object) >= objects.len() {
+        return;
+    }
+    let it = &mut objects[usize::from(object)];
+    it.owner = Some(who);
+}
+
+fn is_integer_cell(cell: &Cell) -> bool
+    ensures { result ≡ is_integer_cell cell.now }
 {
     match cell {
         Cell::Na => true,
@@ -78,7 +95,7 @@ fn may_change(objects: &[Object<Cell>], who: u32, change: &Change) -> bool
     ensures { result ≡ may_change integers objects.now who change.now }
 {
     match objects.get(usize::from(change.object)) {
-        Some(it) => it.owner == Some(who) && is_integer(&change.cell),
+        Some(it) => it.owner == Some(who) && is_integer_cell(&change.cell),
         None => false,
     }
 }

@@ -1,37 +1,12 @@
 -- What a line of a script is answered, and the line of the transcript that says so.
-use Rattle.std.specs.Prelude.{ℕ, ℤ, pos, negsuc, List, [], ◌∷◌, ◌++◌, ◌+◌, ◌/◌, ◌%◌, codes, Bool, true, false, unsigned_abs, if◌then◌else◌}
-use Rattle.std.specs.Fmt.{decimal, signed_decimal}
-use Rattle.aw_cell.specs.declared.cell.Cell.{Cell}
-use Rattle.aw_cell.specs.declared.cell.Cell.TheVariants.{Na, Num, Int, Text, Bool as Truth, Slot}
+use Rattle.std.specs.Prelude.{ℕ, List, [], ◌∷◌, ◌++◌, codes, Bool, true, false}
+use Rattle.std.specs.Fmt.{decimal}
+use Rattle.aw_cell.specs.CellText.{cell_text}
 use Rattle.ses_step.specs.declared.answer.Answer.{Answer}
 use Rattle.ses_step.specs.declared.answer.Answer.TheVariants.{Done, Shown, Refused}
 use Rattle.ses_step.specs.declared.answer.Detail.{Detail}
 use Rattle.ses_step.specs.declared.answer.Detail.TheVariants.{Nothing, Column, One, Two, Count}
 use Rattle.ses_step.specs.declared.answer.Refusal.{Refusal}
-
--- ---- texts of cells
-
--- a `-` in front of what is below zero
-abbrev pub sign : ℤ → List ℕ
-sign (pos n) = []
-sign (negsuc n) = 45 ∷ []
-
--- the last four digits of a number
-abbrev pub four_digits : ℕ → List ℕ
-four_digits n = (48 + n / 1000 % 10) ∷ (48 + n / 100 % 10) ∷ (48 + n / 10 % 10) ∷ (48 + n % 10) ∷ []
-
--- a NUMBER, from its ten-thousandths: the sign, the whole part without needless zeros, a point and four decimals
-abbrev pub number_text : ℤ → List ℕ
-number_text units = sign units ++ decimal (unsigned_abs units / 10000) ++ 46 ∷ four_digits (unsigned_abs units)
-
--- an INTEGER in digits with its sign, a TEXT as it is, a value of a dimension by the number of its slot
-abbrev pub cell_text : Cell → List ℕ
-cell_text Na = codes "NA"
-cell_text (Num units) = number_text units
-cell_text (Int z) = signed_decimal z
-cell_text (Text bytes) = bytes
-cell_text (Truth b) = if b then codes "YES" else codes "NO"
-cell_text (Slot slot) = decimal slot
 
 -- ---- refusals
 
@@ -74,6 +49,10 @@ not_acquired object = record { number = 19; detail = One object }
 -- 22: the object has the last generation that can be numbered
 abbrev pub full : List ℕ → Refusal
 full object = record { number = 22; detail = One object }
+
+-- 30: the disk failed in a commit
+abbrev pub disk_fault : Refusal
+disk_fault = record { number = 30; detail = Nothing }
 
 -- ---- lines
 

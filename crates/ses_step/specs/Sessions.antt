@@ -11,7 +11,7 @@ use Rattle.mv_core.specs.declared.entry.Fresh.{Fresh}
 use Rattle.mv_core.specs.declared.entry.Entry.{Entry}
 use Rattle.mv_core.specs.declared.entry.Entry.TheVariants as entry
 use Rattle.mv_core.specs.declared.entry.Reply.{Reply}
-use Rattle.mv_core.specs.declared.entry.Reply.TheVariants.{Attached, Acquired, Committed, Owned, Newer, Stranger, Worn, NoMemory}
+use Rattle.mv_core.specs.declared.entry.Reply.TheVariants.{Attached, Acquired, Committed, Owned, Newer, Stranger, Worn, Fault, NoMemory}
 use Rattle.ses_step.specs.declared.line.Command.{Command}
 use Rattle.ses_step.specs.declared.line.Command.TheVariants as command
 use Rattle.ses_step.specs.declared.answer.Answer.{Answer}
@@ -22,7 +22,7 @@ use Rattle.ses_step.specs.declared.session.Begun.TheVariants.{Said, Ask}
 use Rattle.ses_step.specs.declared.session.Session.{Session}
 use Rattle.ses_step.specs.declared.session.View.{View}
 use Rattle.ses_step.specs.Words.{place_of}
-use Rattle.ses_step.specs.Answers.{no_form, not_attached, already_attached, owned_by, newer, not_acquired, full}
+use Rattle.ses_step.specs.Answers.{no_form, not_attached, already_attached, owned_by, newer, not_acquired, full, disk_fault}
 
 -- a session that isn't attached
 abbrev pub new_session : ℕ → Session
@@ -125,4 +125,5 @@ finished definitions names s asked (Owned object by) = (Refused (owned_by (name_
 finished definitions names s asked (Newer object number) = (Refused (newer (name_at definitions object) number), s)
 finished definitions names s asked (Stranger object) = (Refused (not_acquired (name_at definitions object)), s)
 finished definitions names s asked (Worn object) = (Refused (full (name_at definitions object)), s)
+finished definitions names s asked Fault = (Refused disk_fault, s)
 finished definitions names s asked NoMemory = (Done, s)

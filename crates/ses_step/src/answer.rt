@@ -1,8 +1,9 @@
 ghost use Rattle.std.specs.Prelude.{◌≡◌, ◌++◌, ◌∷◌, IfOk, OnOk, OnErr};
-ghost use Rattle.std.specs.Fmt.{decimal, signed_decimal};
-ghost use Rattle.ses_step.specs.Answers.{cell_text, number_text, four_digits, detail_text, answer_text, answer_line, is_refusal, no_form, not_attached, already_attached, owned_by, newer, not_acquired, full};
+ghost use Rattle.std.specs.Fmt.{decimal};
+ghost use Rattle.aw_cell.specs.CellText.{cell_text};
+ghost use Rattle.ses_step.specs.Answers.{detail_text, answer_text, answer_line, is_refusal, no_form, not_attached, already_attached, owned_by, newer, not_acquired, full, disk_fault};
 
-use aw_cell::{Cell, Number, Text};
+use aw_cell::{Cell, Text};
 use std::alloc::{AllocError, Global};
 
 /// What a refusal says beside its number (docs/LANGUAGE.md, "Refusals").
@@ -110,6 +111,16 @@ impl Refusal {
             detail: Detail::One(object),
         }
     }
+
+    /// Refusal 30: the disk failed in a commit.
+    pub fn disk_fault() -> Refusal
+        ensures { result ≡ disk_fault }
+    {
+        Refusal {
+            number: 30,
+            detail: Detail::Nothing,
+        }
+    }
 }
 
 impl Answer {
@@ -137,50 +148,12 @@ fn append_count(alloc: Global, out: &mut Vec<u8>, count: u64) -> Result<(), Allo
     append(out, digits.as_bytes())
 }
 
-fn append_integer(alloc: Global, out: &mut Vec<u8>, integer: i32) -> Result<(), AllocError>
-    ensures { OnOk result (out.new.items ≡ out.old.items ++ signed_decimal integer) }
-{
-    let digits = integer.to_string(alloc)?;
-    append(out, digits.as_bytes())
-}
-
-/// The last four digits of a number.
-fn last_digits(number: u64) -> [u8; 4]
-    ensures { result ≡ four_digits number }
-{
-    [
-        b'0' + (number / 1000 % 10) as u8,
-        b'0' + (number / 100 % 10) as u8,
-        b'0' + (number / 10 % 10) as u8,
-        b'0' + (number % 10) as u8,
-    ]
-}
-
-fn append_number(alloc: Global, out: &mut Vec<u8>, number: &Number) -> Result<(), AllocError>
-    ensures { OnOk result (out.new.items ≡ out.old.items ++ number_text number.now) }
-{
-    let units = number.units();
-    if units < 0 {
-        append(out, b"-")?;
-    }
-    let size = units.unsigned_abs();
-    append_count(alloc, out, size / 10000)?;
-    append(out, b".")?;
-    append(out, &last_digits(size))
-}
-
-fn append_cell(alloc: Global, out: &mut Vec<u8>, cell: &Cell) -> Result<(), AllocError>
+fn append_cell(out: &mut Vec<u8>, cell: &Cell) -> Result<(), AllocError>
     ensures { OnOk result (out.new.items ≡ out.old.items ++ cell_text cell.now) }
 {
-    match cell {
-        Cell::Na => append(out, b"NA"),
-        Cell::Num(number) => append_number(alloc, out, number),
-        Cell::Int(integer) => append_integer(alloc, out, *integer),
-        Cell::Text(text) => append(out, text.bytes()),
-        Cell::Bool(true) => append(out, b"YES"),
-        Cell::Bool(false) => append(out, b"NO"),
-        Cell::Slot(slot) => append_count(alloc, out, u64::from(*slot)),
-    }
+    let mut text = [0; 64];
+    let len = cell.write(&mut text);
+    append(out, &text[..len])
 }
 
 /// Appends a blank and a text.
@@ -218,7 +191,7 @@ fn append_answer(alloc: Global, out: &mut Vec<u8>, answer: &Answer) -> Result<()
 {
     match answer {
         Answer::Done => append(out, b"ok"),
-        Answer::Shown(cell) => append_cell(alloc, out, cell),
+        Answer::Shown(cell) => append_cell(out, cell),
         Answer::Refused(refusal) => {
             append(out, b"ERROR ")?;
             append_count(alloc, out, u64::from(refusal.number))?;
@@ -258,6 +231,7 @@ pub fn append_line(
 #[cfg(test)]
 mod tests {
     use super::*;
+    use aw_cell::Number;
     use std::test::Fail;
 
     fn text(bytes: &[u8]) -> Result<Text, Fail> {
@@ -277,23 +251,16 @@ mod tests {
 
     #[test]
     fn prints_what_is_shown(rt: HostRuntime) -> Result<(), Fail> {
-        let cases: [(Answer, &[u8]); 13] = [
+        let cases: [(Answer, &[u8]); 6] = [
             (Answer::Done, b"a: ok\n"),
             (Answer::Shown(Cell::Na), b"a: NA\n"),
             (Answer::Shown(Cell::Int(-5)), b"a: -5\n"),
-            (Answer::Shown(Cell::Int(2147483647)), b"a: 2147483647\n"),
             (number(-15_000)?, b"a: -1.5000\n"),
-            (number(-1)?, b"a: -0.0001\n"),
-            (number(0)?, b"a: 0.0000\n"),
-            (number(120_340)?, b"a: 12.0340\n"),
             (
                 Answer::Shown(Cell::Text(text(b"North 1")?)),
                 b"a: North 1\n",
             ),
-            (Answer::Shown(Cell::Text(text(b"")?)), b"a: \n"),
             (Answer::Shown(Cell::Bool(true)), b"a: YES\n"),
-            (Answer::Shown(Cell::Bool(false)), b"a: NO\n"),
-            (Answer::Shown(Cell::Slot(65535)), b"a: 65535\n"),
         ];
         for (answer, expected) in cases {
             let printed = line(rt.alloc(), b"a", answer)?;

@@ -332,9 +332,9 @@ impl Session {
     /// `names` those of the sessions by their numbers.
     ///
     /// Refused are an object that another session owns (17), one with a newer generation (18), one
-    /// that the session doesn't own (19) and one whose numbers are used up (22), as the reply says;
-    /// the session stays as it was. The only error is want of memory, here or in the reply, which
-    /// leaves the session as it was, too.
+    /// that the session doesn't own (19), one whose numbers are used up (22), and a commit in which
+    /// the disk failed (30), as the reply says; the session stays as it was. The only error is want of
+    /// memory, here or in the reply, which leaves the session as it was, too.
     pub fn finish(
         &mut self,
         alloc: Global,
@@ -377,6 +377,7 @@ impl Session {
                 definitions,
                 *object as usize,
             )))),
+            Reply::Fault => Ok(Answer::Refused(Refusal::disk_fault())),
             Reply::NoMemory => Err(AllocError),
         }
     }
@@ -521,6 +522,7 @@ mod tests {
             ),
             (Reply::Stranger { object: 1 }, 19, Detail::One(w)),
             (Reply::Worn { object: 0 }, 22, Detail::One(v)),
+            (Reply::Fault, 30, Detail::Nothing),
         ];
         for (reply, number, detail) in cases {
             let (answer, _) = turn(alloc, &mut session, &Command::Acquire(v), &reply)?;
