@@ -6,12 +6,13 @@ use Rattle.std.specs.Option.{ForSome, option_map, option_and_then}
 use Rattle.std.proofs.Common.{ap, sym, subst}
 use Rattle.std.proofs.lemmas.Option.{none-some, same_Some}
 use Rattle.aw_cell.specs.declared.cell.Cell.TheVariants.{Int}
-use Rattle.mv_core.specs.Integers.{is_integer}
+use Rattle.aw_cell.specs.Cell.{is_integer_cell}
 use Rattle.ses_step.specs.declared.line.Line.{Line}
 use Rattle.ses_step.specs.declared.line.Line.TheVariants as line
 use Rattle.ses_step.specs.declared.line.Command.{Command}
 use Rattle.ses_step.specs.declared.line.Command.TheVariants as command
-use Rattle.ses_step.specs.Words.{same_word, is_digit, is_word_byte, before_comment, words}
+use Rattle.aw_cell.specs.Names.{same_word, is_digit, is_word_byte}
+use Rattle.ses_step.specs.Words.{before_comment, words}
 use Rattle.ses_step.specs.Lines.{keeps_form, after_blanks, is_passed_over, name_in, integer_in, one_word, two_words, assignment, three_words, command_in, is_definition, definition_in, has_prefix, session_line, line_in, line_form}
 use Rattle.script_play.proofs.Elements.{if-holds}
 use Rattle.script_play.proofs.FittingTurns.{AssignsInteger}
@@ -44,14 +45,14 @@ two_words-integer a b =
     if-holds IntegerIn (same_word a (codes "ACQUIRE")) (option_map command.Acquire (name_in b)) (if same_word a (codes "SHOW") then option_map command.Show (name_in b) else None) (named-integer command.Acquire (λ name. tt) (name_in b))
     (if-holds IntegerIn (same_word a (codes "SHOW")) (option_map command.Show (name_in b)) None (named-integer command.Show (λ name. tt) (name_in b)) none-integer)
 
-integer_in-fits : (word : List ℕ) → ForSome (integer_in word) (λ value. is_integer (Int value) ≡ true)
+integer_in-fits : (word : List ℕ) → ForSome (integer_in word) (λ value. is_integer_cell (Int value) ≡ true)
 integer_in-fits word =
-    if-holds (λ found. ForSome found (λ value. is_integer (Int value) ≡ true)) (not (length word == 0) && list_all is_digit word && nat_le (digits_value 10 word) 2147483647) (Some (pos (digits_value 10 word))) None (λ value is. ap (λ value. is_integer (Int value)) (sym (same_Some (pos (digits_value 10 word)) value is))) (λ value is. absurd (none-some value is))
+    if-holds (λ found. ForSome found (λ value. is_integer_cell (Int value) ≡ true)) (not (length word == 0) && list_all is_digit word && nat_le (digits_value 10 word) 2147483647) (Some (pos (digits_value 10 word))) None (λ value is. ap (λ value. is_integer_cell (Int value)) (sym (same_Some (pos (digits_value 10 word)) value is))) (λ value is. absurd (none-some value is))
 
 assignment-integer : (a c : List ℕ) → IntegerIn (assignment a c)
 assignment-integer a c = by_name (name_in a)
   where
-    by_value : (name : List ℕ) (value : Option ℤ) → ForSome value (λ value. is_integer (Int value) ≡ true) → IntegerIn (option_map (command.Assign name) value)
+    by_value : (name : List ℕ) (value : Option ℤ) → ForSome value (λ value. is_integer_cell (Int value) ≡ true) → IntegerIn (option_map (command.Assign name) value)
     by_value name None fits = none-integer
     by_value name (Some value) fits = some-integer (command.Assign name value) (fits value refl)
 

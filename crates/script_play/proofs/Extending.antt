@@ -16,7 +16,8 @@ use Rattle.mv_core.specs.Generations.{Bodies, change_of, changes_of, generations
 use Rattle.mv_core.specs.GenerationLaws.{changes_of-committed, IsGeneration-latest, latest_number-changed, latest_body-changed}
 use Rattle.mv_core.specs.Owners.{owner_of}
 use Rattle.mv_core.specs.Workspace.{Workspace, object_of, standing}
-use Rattle.mv_core.specs.Integers.{integers, is_integer}
+use Rattle.aw_cell.specs.Cell.{is_integer_cell}
+use Rattle.mv_core.specs.Integers.{integers}
 use Rattle.mv_core.specs.SharedStep.{is_own, fits_object, may_change, first_stranger, is_worn, first_worn, workspace_after}
 use Rattle.ses_step.specs.declared.line.Command.TheVariants as command
 use Rattle.ses_step.specs.declared.answer.Answer.TheVariants.{Done, Refused}
@@ -100,7 +101,7 @@ module _ (definitions names : List (List ℕ)) (sessions : List Session) (shared
       let it = views_fit.each object view is in
       let here : slice_get (standing integers shared) view.object ≡ Some (object_of integers shared object) = ap (slice_get (standing integers shared)) it.place ∙ slice_get-standing shared object (within object view is) in
       let owner : owner_of shared.owners object ≡ Some s.who = it.owned.0 (is_own_view view staged) in
-      ap (λ found. is_own s.who found && fits_object integers found (change_of_view view)) here ∙ ap (λ by. elim by [ None ↦ false | Some other ↦ other == s.who ] && is_integer view.staged) owner ∙ and_from (s.who == s.who) (is_integer view.staged) (eq-eqb s.who s.who refl) it.values.0
+      ap (λ found. is_own s.who found && fits_object integers found (change_of_view view)) here ∙ ap (λ by. elim by [ None ↦ false | Some other ↦ other == s.who ] && is_integer_cell view.staged) owner ∙ and_from (s.who == s.who) (is_integer_cell view.staged) (eq-eqb s.who s.who refl) it.values.0
 
   none_refused : first_stranger integers (standing integers shared) s.who 0 (changes_in views) ≡ None
   none_refused = no_stranger (standing integers shared) s.who 0 0 views (omega arith) (λ k view is. omega (arith, (views_fit.each k view is).place)) allowed

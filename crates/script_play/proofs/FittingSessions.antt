@@ -14,7 +14,8 @@ use Rattle.mv_core.specs.GenerationLaws.{IsGeneration-latest, latest_body-change
 use Rattle.mv_core.specs.StandingLaws.{length-standing}
 use Rattle.mv_core.specs.Owners.{owner_of}
 use Rattle.mv_core.specs.Workspace.{Workspace, object_of, standing}
-use Rattle.mv_core.specs.Integers.{integers, is_integer}
+use Rattle.aw_cell.specs.Cell.{is_integer_cell}
+use Rattle.mv_core.specs.Integers.{integers}
 use Rattle.mv_core.specs.SharedStep.{fresh_from}
 use Rattle.ses_step.specs.declared.session.Session.{Session}
 use Rattle.ses_step.specs.declared.session.View.{View}
@@ -68,7 +69,7 @@ slice_get-standing shared object within = slice_get-map_range (object_of integer
 abbrev latest_fresh : Workspace Change → ℕ → Fresh
 latest_fresh shared object = record { object = object; number = latest_number integers shared.history object; cell = latest_body integers shared.history object }
 
-ViewFits-seen : (shared : Workspace Change) (who object : ℕ) → is_integer (latest_body integers shared.history object) ≡ true → owner_of shared.owners object ≢ Some who → ViewFits shared who object (seen (latest_fresh shared object))
+ViewFits-seen : (shared : Workspace Change) (who object : ℕ) → is_integer_cell (latest_body integers shared.history object) ≡ true → owner_of shared.owners object ≢ Some who → ViewFits shared who object (seen (latest_fresh shared object))
 ViewFits-seen shared who object value not_owned = record {
   place = refl;
   base = IsGeneration-latest integers shared.history object;
@@ -78,7 +79,7 @@ ViewFits-seen shared who object value not_owned = record {
   values = (value, value);
 }
 
-pub ViewsFit-seen : (shared : Workspace Change) (who : ℕ) → ((object : ℕ) → is_integer (latest_body integers shared.history object) ≡ true) → ((object : ℕ) → owner_of shared.owners object ≢ Some who) → ViewsFit shared who (map seen (fresh_from 0 (standing integers shared)))
+pub ViewsFit-seen : (shared : Workspace Change) (who : ℕ) → ((object : ℕ) → is_integer_cell (latest_body integers shared.history object) ≡ true) → ((object : ℕ) → owner_of shared.owners object ≢ Some who) → ViewsFit shared who (map seen (fresh_from 0 (standing integers shared)))
 ViewsFit-seen shared who values not_owned = record {
   count = length-map (fresh_from 0 (standing integers shared)) seen ∙ length-fresh_from 0 (standing integers shared) ∙ length-standing integers shared;
   each = λ object view is.
@@ -108,7 +109,7 @@ module _ (definitions : List (List ℕ)) (sessions : List Session) (shared : Wor
   abbrev pub HasOwned : Workspace Change → Session → Type 0
   HasOwned after new = (object by : ℕ) → owner_of after.owners object ≡ Some by → (owner_of shared.owners object ≡ Some by) ⊎ ((by ≡ s.who) × (object < shared.objects) × IsSome new.views)
 
-  SharedFits-turned : (after : Workspace Change) (new : Session) → after.objects ≡ shared.objects → SessionFits after s.who new → ((other : ℕ) (session : Session) → other ≢ s.who → SessionFits shared other session → SessionFits after other session) → (IsSome s.views → IsSome new.views) → HasOwned after new → ((object : ℕ) → is_integer (latest_body integers after.history object) ≡ true) → SharedFits definitions (slice_set sessions s.who new) after
+  SharedFits-turned : (after : Workspace Change) (new : Session) → after.objects ≡ shared.objects → SessionFits after s.who new → ((other : ℕ) (session : Session) → other ≢ s.who → SessionFits shared other session → SessionFits after other session) → (IsSome s.views → IsSome new.views) → HasOwned after new → ((object : ℕ) → is_integer_cell (latest_body integers after.history object) ≡ true) → SharedFits definitions (slice_set sessions s.who new) after
   SharedFits-turned after new kept itself others attached owned values = record {
     objects = kept ∙ fits.objects;
     values = values;
@@ -189,14 +190,14 @@ module _ (definitions : List (List ℕ)) (sessions : List Session) (shared : Wor
           (λ at by owned. inl owned)
           values
         where
-          values : (object : ℕ) → is_integer (latest_body integers (shared.history ++ changes_in views ∷ []) object) ≡ true
+          values : (object : ℕ) → is_integer_cell (latest_body integers (shared.history ++ changes_in views ∷ []) object) ≡ true
           values object = value_after (change_of integers object (changes_in views)) refl
             where
-              value_after : (found : Option Change) → change_of integers object (changes_in views) ≡ found → is_integer (latest_body integers (shared.history ++ changes_in views ∷ []) object) ≡ true
-              value_after None is = ap is_integer (latest_body-unchanged integers shared.history (changes_in views) object is) ∙ fits.values object
+              value_after : (found : Option Change) → change_of integers object (changes_in views) ≡ found → is_integer_cell (latest_body integers (shared.history ++ changes_in views ∷ []) object) ≡ true
+              value_after None is = ap is_integer_cell (latest_body-unchanged integers shared.history (changes_in views) object is) ∙ fits.values object
               value_after (Some change) is =
                   let from = change_of-from views object change is in
-                  ap is_integer (latest_body-changed integers shared.history (changes_in views) object change is ∙ ap (λ it. it.cell) from.3) ∙ (views_fit.each from.0 from.1 from.2).values.0
+                  ap is_integer_cell (latest_body-changed integers shared.history (changes_in views) object change is ∙ ap (λ it. it.cell) from.3) ∙ (views_fit.each from.0 from.1 from.2).values.0
 
           own : (object : ℕ) (view : View) → slice_get views object ≡ Some view → ViewFits shared s.who object view → ViewFits (committed shared (changes_in views)) s.who object (committed_view view)
           own object view is it =

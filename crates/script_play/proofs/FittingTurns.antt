@@ -14,7 +14,8 @@ use Rattle.mv_core.specs.declared.entry.Reply.TheVariants.{Acquired, Committed, 
 use Rattle.mv_core.specs.declared.object.Object.{Object}
 use Rattle.mv_core.specs.Generations.{change_of, latest_number}
 use Rattle.mv_core.specs.Workspace.{Workspace, object_of, standing}
-use Rattle.mv_core.specs.Integers.{integers, is_integer}
+use Rattle.aw_cell.specs.Cell.{is_integer_cell}
+use Rattle.mv_core.specs.Integers.{integers}
 use Rattle.mv_core.specs.SharedStep.{free_reply, acquire_reply, commit_reply, first_stranger, first_worn, is_worn, fresh_from, reply_of, workspace_after}
 use Rattle.ses_step.specs.declared.line.Command.{Command}
 use Rattle.ses_step.specs.declared.line.Command.TheVariants as command
@@ -100,7 +101,7 @@ number-small shared changes object change within none found =
 
 -- a command that assigns an INTEGER, if it assigns anything
 abbrev pub AssignsInteger : Command → Type 0
-AssignsInteger (command.Assign name value) = is_integer (Int value) ≡ true
+AssignsInteger (command.Assign name value) = is_integer_cell (Int value) ≡ true
 AssignsInteger _ = Unit
 
 module _ (definitions names : List (List ℕ)) (sessions : List Session) (shared : Workspace Change) (s : Session) (fits : SharedFits definitions sessions shared) (own_place : slice_get sessions s.who ≡ Some s) where
@@ -156,7 +157,7 @@ module _ (definitions names : List (List ℕ)) (sessions : List Session) (shared
     acquire_kept object view found =
         acquire_reply-cases (KeptBy (entry.Acquire s.who view.object view.number)) (slice_get (standing integers shared) view.object) s.who view.object view.number (λ at. stays) (λ at by. stays) (λ at latest. stays) (granted_kept view (at_place object view found))
 
-    assign_kept : (value : ℤ) → is_integer (Int value) ≡ true → (object : ℕ) (view : View) → slice_get views object ≡ Some view → SharedFits definitions (slice_set sessions s.who (with_view s (record view { private = Int value }))) shared
+    assign_kept : (value : ℤ) → is_integer_cell (Int value) ≡ true → (object : ℕ) (view : View) → slice_get views object ≡ Some view → SharedFits definitions (slice_set sessions s.who (with_view s (record view { private = Int value }))) shared
     assign_kept value value_fits object view found =
         subst (λ (those : Option (List View)). let new : Session = record s { views = those } in SharedFits definitions (slice_set sessions s.who new) shared) (sym (ap (option_map (λ those. slice_set those view.object put)) attached))
         (attached_alone definitions sessions shared s fits own_place (slice_set views view.object put) (ViewsFit-set shared shared s.who refl views all_fit view.object put put_fits (λ at one differs it. it)))
@@ -180,7 +181,7 @@ module _ (definitions names : List (List ℕ)) (sessions : List Session) (shared
           owned = it.owned;
           latest = it.latest;
           unstaged = λ not_own. ap (λ own. elim own [ true ↦ view.private | false ↦ view.staged ]) not_own ∙ it.unstaged not_own;
-          values = (elim view.owned as (λ own. is_integer (elim own [ true ↦ view.private | false ↦ view.staged ]) ≡ true) [ true ↦ it.values.1 | false ↦ it.values.0 ], it.values.1);
+          values = (elim view.owned as (λ own. is_integer_cell (elim own [ true ↦ view.private | false ↦ view.staged ]) ≡ true) [ true ↦ it.values.1 | false ↦ it.values.0 ], it.values.1);
         }
 
     commit_kept : (changes : List Change) → changes_in views ≡ changes → Kept (turn_from by_history definitions names shared (commit_asked s changes))

@@ -11,7 +11,8 @@ use Rattle.ses_step.specs.declared.line.Line.{Line}
 use Rattle.ses_step.specs.declared.line.Line.TheVariants as line
 use Rattle.ses_step.specs.declared.line.Command.{Command}
 use Rattle.ses_step.specs.declared.session.Session.{Session}
-use Rattle.ses_step.specs.Words.{same_word, place_of}
+use Rattle.aw_cell.specs.Names.{same_word}
+use Rattle.ses_step.specs.Words.{place_of}
 use Rattle.ses_step.specs.Lines.{line_form}
 use Rattle.ses_step.specs.Sessions.{new_session}
 use Rattle.script_play.specs.declared.world.World.{World}

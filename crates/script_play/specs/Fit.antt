@@ -5,7 +5,8 @@ use Rattle.mv_core.specs.declared.entry.Change.{Change}
 use Rattle.mv_core.specs.Generations.{IsGeneration, latest_number, latest_body}
 use Rattle.mv_core.specs.Owners.{owner_of}
 use Rattle.mv_core.specs.Workspace.{Workspace}
-use Rattle.mv_core.specs.Integers.{integers, is_integer}
+use Rattle.aw_cell.specs.Cell.{is_integer_cell}
+use Rattle.mv_core.specs.Integers.{integers}
 use Rattle.ses_step.specs.declared.session.Session.{Session}
 use Rattle.ses_step.specs.declared.session.View.{View}
 use Rattle.script_play.specs.declared.world.World.{World}
@@ -19,7 +20,7 @@ pub record ViewFits (shared : Workspace Change) (who object : ℕ) (view : View)
   pub owned : (view.owned ≡ true) ↔ (owner_of shared.owners object ≡ Some who)
   pub latest : view.owned ≡ true → view.number ≡ latest_number integers shared.history object
   pub unstaged : view.owned ≡ false → view.staged ≡ view.base
-  pub values : (is_integer view.staged ≡ true) × (is_integer view.private ≡ true)
+  pub values : (is_integer_cell view.staged ≡ true) × (is_integer_cell view.private ≡ true)
 
 -- one view for each object, in order of definition
 pub record ViewsFit (shared : Workspace Change) (who : ℕ) (views : List View) : Type 0 where
@@ -37,7 +38,7 @@ IsAttached sessions who = (session : Session) × (slice_get sessions who ≡ Som
 pub record SharedFits (definitions : List (List ℕ)) (sessions : List Session) (shared : Workspace Change) : Type 0 where
   pub objects : shared.objects ≡ length definitions
   pub each : (who : ℕ) → ForSome (slice_get sessions who) (SessionFits shared who)
-  pub values : (object : ℕ) → is_integer (latest_body integers shared.history object) ≡ true
+  pub values : (object : ℕ) → is_integer_cell (latest_body integers shared.history object) ≡ true
   pub owners : (object : ℕ) → ForSome (owner_of shared.owners object) (λ who. (object < shared.objects) × IsAttached sessions who)
 
 -- a session for each name, and none before the definitions are closed
