@@ -1,0 +1,9 @@
+pub mod Changes
+pub mod Commits
+pub mod Distinct
+pub mod Following
+pub mod Loading
+pub mod Payloads
+pub mod Reading
+pub mod Spellings
+pub mod Steps
