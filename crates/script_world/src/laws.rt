@@ -1,0 +1,92 @@
+//! What holds at every moment of every run, on a disk that was opened with any records that can be
+//! replayed, and whichever of its commits meet a fault of the disk.
+
+ghost use Rattle.std.specs.Prelude.{◌≤◌, ℕ, List, [], length};
+ghost use Rattle.aw_codec.specs.declared.record.Decoded.{Decoded};
+ghost use Rattle.mv_core.specs.declared.entry.Change.{Change};
+ghost use Rattle.mv_core.specs.Integers.{integers};
+ghost use Rattle.mv_core.specs.Workspace.{Workspace, standing};
+ghost use Rattle.aw_store.specs.Replay.{workspace_of};
+ghost use Rattle.script_world.specs.Acknowledging.{LeavesAllDone};
+ghost use Rattle.script_world.specs.Alike.{AreAlike};
+ghost use Rattle.script_world.specs.Extending.{CommitsExtend, GrantsHaveLatest};
+ghost use Rattle.script_world.specs.FaultLines.{NextSeesFaults, FaultsAreSeen};
+ghost use Rattle.script_world.specs.Fit.{WorldFits};
+ghost use Rattle.script_world.specs.Isolation.{KeepsOthers};
+ghost use Rattle.script_world.specs.Learning.{outcomes_in, world_with, IsToldOnce, IsLearnt, next_answer, UsesAll, GoesOn};
+ghost use Rattle.script_world.specs.Matching.{CanBeOpened, RecordsMatch};
+ghost use Rattle.script_world.specs.Outcomes.{Outcome, Attempt, OnDisk, history_machine, objects_machine};
+ghost use Rattle.script_world.specs.Transcript.{world_at};
+ghost use Rattle.script_world.specs.Worlds.{World};
+
+/// After any lines of a script the views of each attached session fit what is committed and owned:
+/// the session has one committed generation of each object, has the latest one of an object that
+/// it owns, and has staged nothing of an object that it doesn't own. Only attached sessions own
+/// objects. See docs/SHARING.md, 'What is proved'.
+pub fn views_fit()
+    ensures { (records : List Decoded) (coming : List Outcome) (lines : List (List ℕ)) → CanBeOpened records → WorldFits (world_at records coming lines) }
+{}
+
+/// After any lines of a script, a COMMIT of an attached session that is answered `ok` makes each
+/// staged body the generation behind the one that the session had, which was the latest, and adds
+/// none to any other object. Else it is refused, with 22 where an object's numbers are used up or
+/// with 30 where the disk failed, and then changes nothing. See docs/SHARING.md, 'What is proved'.
+pub fn commits_extend_the_latest()
+    ensures { (records : List Decoded) (coming : List Outcome) (lines : List (List ℕ)) → CanBeOpened records → CommitsExtend coming (world_at records coming lines) }
+{}
+
+/// After any lines of a script, an ACQUIRE of an attached session that is answered `ok` is of an
+/// object of which the session has the latest generation, and the session owns it from then on.
+/// See docs/SHARING.md, 'What is proved'.
+pub fn grants_have_the_latest()
+    ensures { (records : List Decoded) (coming : List Outcome) (lines : List (List ℕ)) → CanBeOpened records → GrantsHaveLatest coming (world_at records coming lines) }
+{}
+
+/// A line changes nothing of what a session holds, unless it is of that session. So what a session
+/// sees changes by its own lines alone. See docs/SHARING.md, 'What is proved'.
+pub fn lines_keep_other_sessions()
+    ensures { (coming : List Outcome) (w : World (OnDisk (Workspace Change))) (line : List ℕ) → KeepsOthers coming w line }
+{}
+
+/// After any lines of a script, the definitions, the commits and so the generations are those of the
+/// records with which the disk was opened and then of the attempts that were done; and these
+/// records can be replayed. So what was acknowledged is what a later run finds. The same holds of
+/// the definitions at the end of a script. See docs/SHARING.md, 'Commits on a disk'.
+pub fn records_match()
+    ensures { (records : List Decoded) (coming : List Outcome) (lines : List (List ℕ)) → CanBeOpened records → RecordsMatch records coming lines }
+{}
+
+/// Outcomes behind those that the commits of some lines used change nothing of these lines, but
+/// that more are to come. So a program that doesn't know them yet has answered these lines all the
+/// same, and goes on with the outcomes that the next line's commit tells. See docs/SHARING.md,
+/// 'Commits on a disk'.
+pub fn text_is_told_once()
+    ensures told { (records : List Decoded) (coming more : List Outcome) (lines : List (List ℕ)) →
+        length (outcomes_in (world_at records coming lines)) ≤ length coming →
+        IsToldOnce history_machine (workspace_of records []) records coming more lines }
+    ensures goes_on { (records : List Decoded) (coming new : List Outcome) (lines : List (List ℕ)) (line : List ℕ) →
+        let state = standing integers (workspace_of records []) in
+        IsLearnt objects_machine state records coming lines →
+        UsesAll new (world_with objects_machine state records coming lines) (next_answer objects_machine state records coming lines new line) →
+        GoesOn objects_machine state records coming lines new line }
+{}
+
+/// A line is refused with 30, which is written, exactly where the disk failed in one attempt more.
+/// So the number of these lines is the number of attempts in which the disk failed, and that of the
+/// commits' outcomes that are faults. See docs/SHARING.md, 'Commits on a disk'.
+pub fn faults_are_seen()
+    ensures each { (records : List Decoded) (coming : List Outcome) (lines : List (List ℕ)) (line : List ℕ) → NextSeesFaults records coming lines line }
+    ensures all { (records : List Decoded) (coming : List Outcome) (lines : List (List ℕ)) → FaultsAreSeen records coming lines }
+{}
+
+/// The objects as they stand, which the code keeps, write the text, refuse the lines and make the
+/// attempts that the commits and the owners do. See docs/SHARING.md, 'What is proved'.
+pub fn objects_answer_as_commits()
+    ensures { (records : List Decoded) (coming : List Outcome) (lines : List (List ℕ)) → AreAlike records coming lines }
+{}
+
+/// After an attempt that was done, a crash leaves the records with which the disk was opened and
+/// those of all attempts that were done, and nothing else. See docs/SHARING.md, 'Commits on a disk'.
+pub fn acknowledged_records_are_left()
+    ensures { (opened : List Decoded) (made : List Attempt) (attempted : Decoded) (records : List Decoded) → LeavesAllDone opened made attempted records }
+{}

@@ -1,0 +1,12 @@
+//! What a script means on a disk: the world of a run, its transcript, the records that it was to
+//! write, and what a crash may leave of them. All of it is definitions and laws on them; the
+//! program is in the crates above.
+#![tactic(auto)]
+
+mod laws;
+
+pub use laws::{
+    acknowledged_records_are_left, commits_extend_the_latest, faults_are_seen,
+    grants_have_the_latest, lines_keep_other_sessions, objects_answer_as_commits, records_match,
+    text_is_told_once, views_fit,
+};
