@@ -1,19 +1,31 @@
-//! `olapdml play < SCRIPT` plays a script of definitions and session lines, and writes the
-//! transcript.
+//! `olapdml PATH play < SCRIPT` plays a script of definitions and session lines on the workspace in
+//! the file PATH, and writes the transcript. `olapdml PATH new` makes the workspace, and
+//! `olapdml PATH dump` writes what it holds.
 #![tactic(auto)]
 
 use aw_cell::Text;
+use aw_disk::FileDisk;
 use aw_io::{StdSink, StdSource};
 use script_play::run;
 use std::process::ExitCode;
 use std::rt::Env;
 use std::{env, io};
 
-const HELP: &str = "olapdml play < SCRIPT
+const HELP: &str = "olapdml PATH new
+olapdml PATH play < SCRIPT
+olapdml PATH dump
 
-Plays a script of definitions and session lines, and writes the transcript.";
+Makes a workspace in the file PATH, plays a script of definitions and session lines on it and
+writes the transcript, or writes what it holds.";
 
-const VERSION: &str = "olapdml 0.1.0";
+const VERSION: &str = "olapdml 0.2.0";
+
+/// The words of the command line: the path of the workspace, and the words behind it.
+#[derive(Drop)]
+struct CommandLine {
+    path: Option<String>,
+    words: Vec<Text>,
+}
 
 /// A word of the command line as a text; one that is none becomes the empty one.
 fn word_of(argument: &str) -> Text {
@@ -24,19 +36,22 @@ fn word_of(argument: &str) -> Text {
 }
 
 /// The words after the program's name.
-fn words<R: Env + AllocGlobal>(rt: &R) -> io::Result<Vec<Text>> {
+fn read_words<R: Env + AllocGlobal>(rt: &R) -> io::Result<CommandLine> {
+    let mut arguments = env::args(rt)?.skip(1);
+    let path = arguments.next();
     let mut words = Vec::new(rt.alloc());
-    for argument in env::args(rt)?.skip(1) {
+    for argument in arguments {
         words.push(word_of(argument.as_str()))?;
     }
-    Ok(words)
+    Ok(CommandLine { path, words })
 }
 
-/// Plays standard input to standard output.
-fn play<R: Input + Print + AllocGlobal>(rt: &R, words: &[Text]) -> u8 {
+/// Does what the words say, on the workspace in this file.
+fn work(rt: &HostRuntime, path: &str, words: &[Text]) -> u8 {
+    let mut disk = FileDisk::open(rt, path);
     let mut script = StdSource::new(rt.reader());
     let mut out = StdSink::new(io::writer(rt));
-    run(rt.alloc(), words, &mut script, &mut out)
+    run(rt.alloc(), words, &mut script, &mut out, &mut disk)
 }
 
 /// Prints a text that was asked for; a failure is the sink's.
@@ -51,18 +66,26 @@ fn tell(rt: &impl Print, text: &str) -> u8 {
 const NO_MEMORY: u8 = 6;
 
 fn main(rt: HostRuntime) -> ExitCode {
-    let words = match words(&rt) {
-        Ok(words) => words,
+    let given = match read_words(&rt) {
+        Ok(given) => given,
         Err(error) if error.kind() == io::ErrorKind::OutOfMemory => {
             return ExitCode::from(NO_MEMORY);
         }
         // Words that aren't UTF-8 are no command.
-        Err(_) => Vec::new(rt.alloc()),
+        Err(_) => CommandLine {
+            path: None,
+            words: Vec::new(rt.alloc()),
+        },
     };
-    let status = match words.as_slice() {
-        [word] if word.bytes() == b"--help".as_slice() => tell(&rt, HELP),
-        [word] if word.bytes() == b"--version".as_slice() => tell(&rt, VERSION),
-        words => play(&rt, words),
+    let path = match &given.path {
+        Some(path) => path.as_str(),
+        None => "",
+    };
+    let words = given.words.as_slice();
+    let status = match path {
+        "--help" if words.is_empty() => tell(&rt, HELP),
+        "--version" if words.is_empty() => tell(&rt, VERSION),
+        path => work(&rt, path, words),
     };
     ExitCode::from(status)
 }

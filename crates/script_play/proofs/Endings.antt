@@ -1,97 +1,302 @@
--- How a run ends, told over the history and the owners.
-use Rattle.std.proofs.Common.{◌≡◌, ℕ, List, [], take, Option, refl, sym, ◌∙◌, subst, inl, inr, lit≤}
-use Rattle.aw_io.specs.Known.{Grows, GrowsByFront, Gives-nothing, Grows-nothing, GrowsByFront-all}
+-- How a run ends, told over the commits and the owners.
+use Rattle.std.specs.Prelude.{◌≡◌, ◌≤◌, ◌<◌, ◌+◌, ◌++◌, ◌⊎◌, ℕ, Bool, true, false, List, [], ◌∷◌, length, take, Option, None, Some, IfSome, IsTrue, unwrap_or, refl}
+use Rattle.std.specs.Option.{option_map}
+use Rattle.std.proofs.Common.{◌∙◌, ap, sym, subst, inl, inr, ⊎_elim, arith, length-append}
+use Rattle.std.proofs.lemmas.List.{take_at}
+use Rattle.std.proofs.lemmas.Option.{none-some}
+use Rattle.std.specs.Io.KnownBytes.{IsAtEnd}
+use Rattle.aw_io.specs.Known.{Gives, Grows, GrowsByFront, Gives-nothing, Grows-nothing}
+use Rattle.aw_codec.specs.Records.{AreDefinable}
+use Rattle.aw_codec.specs.declared.record.Decoded.{Decoded}
+use Rattle.mv_core.specs.Integers.{integers}
+use Rattle.mv_core.specs.Workspace.{Workspace, standing}
+use Rattle.mv_core.specs.declared.entry.Change.{Change}
+use Rattle.mv_core.specs.declared.object.Object.{Object}
+use Rattle.aw_cell.specs.declared.cell.Cell.{Cell}
+use Rattle.script_world.specs.StoreTurns.{store_disk}
+use Rattle.aw_journal.specs.Passed.{Passed}
+use Rattle.aw_store.specs.Images.{HoldsRecords, LeftRecords, IsRefused}
+use Rattle.aw_store.specs.Replay.{can_replay, names_of, workspace_of}
+use Rattle.aw_store.specs.Stores.{StoreState}
+use Rattle.script_world.specs.Worlds.{World, with_shared}
+use Rattle.script_world.specs.Outcomes.{Outcome, faulted, Attempt, OnDisk, by_history}
+use Rattle.script_world.specs.Alike.{standing_disk}
+use Rattle.script_world.specs.Script.{ended_lines, script_lines}
+use Rattle.script_world.specs.Faring.{Fares, HoldsLeft}
+use Rattle.script_world.specs.Transcript.{opening, text_of, world_at, attempts}
+use Rattle.script_world.specs.Running.{HasRun, IsRun}
+use Rattle.script_world.proofs.Faring.{fares_opened, fares_final}
+use Rattle.script_world.proofs.Standing.{are_alike}
+use Rattle.script_world.proofs.Running.{is_run, run_opened}
 use Rattle.script_play.specs.declared.ending.Ending.{Ending}
-use Rattle.script_play.specs.declared.ending.Ending.TheVariants.{Accepted, Refusing, SourceFault, SinkFault, NoMemory, TooLong}
-use Rattle.script_play.specs.Ends.{Devices, Played, status_of, most_bytes}
-use Rattle.script_play.specs.Script.{ended_lines, script_lines}
-use Rattle.script_play.specs.Transcript.{transcript, ended_transcript}
-use Rattle.script_play.specs.Playing.{Play, due, whole_due}
-use Rattle.script_play.specs.Reading.{ReadAll, StoppedReading, FinishesBy, devices}
-use Rattle.script_play.proofs.Simulation.{same_text, same_refused}
+use Rattle.script_play.specs.declared.ending.Ending.TheVariants.{Accepted, Refusing, SourceFault, SinkFault, DiskFault, NoMemory, TooLong}
+use Rattle.script_play.specs.declared.stop.Stop.TheVariants as stop
+use Rattle.script_play.specs.declared.world.StoreWorld.{StoreWorld}
+use Rattle.script_play.specs.Statuses.{most_bytes, status_of}
+use Rattle.script_play.specs.StoreWorlds.{world_of, IsSound}
+use Rattle.script_play.specs.Turning.{FewFaults, defining, Later}
+use Rattle.script_play.specs.Playing.{Play, Stands, HasDone, HasTaken, WasCut, HasFailed, HasPlayed, HasFinished}
+use Rattle.script_play.specs.Reading.{Streams, streams, BrokeOff, CutOff, RanOver, EndedWhole, CutAtEnd, EndsRun, EndsFrom}
+use Rattle.script_play.specs.Ends.{IsFront, AreLines, IsWhole, IsCut, IsBroken, IsTooLong, IsUndefined, EndsSo, Contents, contents, WasOpened, Tells, Plays}
+use Rattle.script_play.specs.Opened.{opened_world, opened_play}
+use Rattle.script_play.proofs.Turning.{later-same}
+use Rattle.script_play.proofs.Done.{cut_before, rose-earlier}
+use Rattle.ses_step.specs.declared.session.Session.{Session}
+use Rattle.aw_lists.specs.Faults.{Rose}
+use Rattle.aw_journal.specs.declared.fault.LoadFault.{LoadFault}
 
-same_due : (taken : List ℕ) → due taken ≡ ended_transcript taken
-same_due taken = same_text (ended_lines taken)
+if-some : (known : Option (List ℕ)) (P : List ℕ → Type 0) → ((image : List ℕ) → known ≡ Some image → P image) → IfSome known P
+if-some None P each = tt
+if-some (Some image) P each = each image refl
 
-same_whole : (taken : List ℕ) → whole_due taken ≡ transcript taken
-same_whole taken = same_text (script_lines taken)
+few-earlier : (outcomes : List Outcome) (before middle now : ℕ) → before ≤ middle → FewFaults outcomes middle now → FewFaults outcomes before now
+few-earlier outcomes before middle now later few = ⊎_elim (λ less. let it : FewFaults outcomes before now = inl (omega (arith, less, later)) in it) (λ last. inr last) few
 
--- reading broke off
-pub Played-stopped : (ending : Ending) (d : Devices) → StoppedReading ending d → Played d (status_of ending)
-Played-stopped Accepted d h = absurd h
-Played-stopped Refusing d h = absurd h
-Played-stopped SourceFault d h = record {
-  ending = SourceFault;
-  taken = h.taken;
-  is = refl;
-  gives = h.gives;
-  ends = record { size = h.size; wrote = subst (Grows d.written_before d.written_now) (same_due h.taken) h.written };
-}
-Played-stopped SinkFault d h = record {
-  ending = SinkFault;
-  taken = h.taken;
-  is = refl;
-  gives = h.gives;
-  ends = record { size = h.size; wrote = inl (subst (GrowsByFront d.written_before d.written_now) (same_due h.taken) h.written) };
-}
-Played-stopped NoMemory d h = record {
-  ending = NoMemory;
-  taken = h.taken;
-  is = refl;
-  gives = h.gives;
-  ends = record { size = h.size; wrote = inl (subst (GrowsByFront d.written_before d.written_now) (same_due h.taken) h.written) };
-}
-Played-stopped TooLong d h = record {
-  ending = TooLong;
-  taken = h.taken;
-  is = refl;
-  gives = h.gives;
-  ends = record { size = h.size; wrote = subst (Grows d.written_before d.written_now) (same_due (take most_bytes h.taken)) h.written };
-}
+-- nothing is open over the objects where nothing is over the commits
+unopened-as : (found : Option (OnDisk (Workspace Change))) → option_map standing_disk found ≡ None → found ≡ None
+unopened-as None none = refl
+unopened-as (Some disk) none = absurd (none-some (standing_disk disk) (sym none))
 
--- the script was read to its end, and then its last line was answered
-pub Played-finished : (ending : Ending) (a b u v w : Option (List ℕ)) (play : Play) → ReadAll (devices a b u v) play → FinishesBy ending play v w → Played (devices a b u w) (status_of ending)
-Played-finished Accepted a b u v w play h f =
-    let end = f.finishes h.taken u h.played in
-    record {
-      ending = Accepted;
-      taken = h.taken;
-      is = refl;
-      gives = h.gives;
-      ends = record { at_end = h.at_end; size = h.size; wrote = subst (Grows u w) (same_whole h.taken) end.0; refuses = sym (same_refused (script_lines h.taken)) ∙ end.1 };
-    }
-Played-finished Refusing a b u v w play h f =
-    let end = f.finishes h.taken u h.played in
-    record {
-      ending = Refusing;
-      taken = h.taken;
-      is = refl;
-      gives = h.gives;
-      ends = record { at_end = h.at_end; size = h.size; wrote = subst (Grows u w) (same_whole h.taken) end.0; refuses = sym (same_refused (script_lines h.taken)) ∙ end.1 };
-    }
-Played-finished SinkFault a b u v w play h f = record {
-  ending = SinkFault;
-  taken = h.taken;
-  is = refl;
-  gives = h.gives;
-  ends = record { size = h.size; wrote = inr (h.at_end, subst (GrowsByFront u w) (same_whole h.taken) (f.stops h.taken u h.played)) };
-}
-Played-finished NoMemory a b u v w play h f = record {
-  ending = NoMemory;
-  taken = h.taken;
-  is = refl;
-  gives = h.gives;
-  ends = record { size = h.size; wrote = inr (h.at_end, subst (GrowsByFront u w) (same_whole h.taken) (f.stops h.taken u h.played)) };
-}
-Played-finished SourceFault a b u v w play h f = absurd f
-Played-finished TooLong a b u v w play h f = absurd f
+module _ {D : Type 0} (faults clock : D → ℕ) (crash : D → ℕ → List ℕ → Type 0) (records : List Decoded) (at : D) where
+  -- how a run ended, over the commits and the owners
+  pub record EndedAs (ending : Ending) (s : Streams) (store : StoreState D) : Type 0 where
+    pub outcomes : List Outcome
+    pub made : List Attempt
+    pub taken : List ℕ
+    pub gives : Gives s.left_before s.left_now taken
+    pub ends_so : EndsSo s records outcomes made taken ending
+    pub stands : Stands faults clock crash records at outcomes made store
 
--- memory ran out before anything was taken
-pub Played-nothing : (left written : Option (List ℕ)) → Played (devices left left written written) (status_of NoMemory)
-Played-nothing left written = record {
-  ending = NoMemory;
-  taken = [];
-  is = refl;
-  gives = Gives-nothing left;
-  ends = record { size = lit≤ tt; wrote = inl (GrowsByFront-all (Grows-nothing written)) };
-}
+  history-of : (lines : List (List ℕ)) (text : List ℕ) (refused : Bool) (w : StoreWorld (StoreState D)) (d : HasDone faults clock crash records at lines text refused w) → IsRun records lines d.coming d.made text refused (world_of w)
+  history-of lines text refused w d = is_run records lines d.coming d.made text refused (world_of w) d.run
+
+  ended-broken : (s : Streams) (store : StoreState D) → BrokeOff faults clock crash records at s store → EndedAs SourceFault s store
+  ended-broken s store it =
+      let run = history-of (ended_lines it.taken) it.text it.refused it.w it.lines in
+      record {
+        outcomes = it.lines.coming;
+        made = it.lines.made;
+        taken = it.taken;
+        gives = it.gives;
+        ends_so = record { size = it.size; wrote = subst (Grows s.written_before s.written_now) (sym run.text_is) it.written; attempted = run.attempts_are };
+        stands = subst (Stands faults clock crash records at it.lines.coming it.lines.made) (sym it.store_is) it.lines.stands;
+      }
+
+  ended-over : (s : Streams) (store : StoreState D) → RanOver faults clock crash records at s store → EndedAs TooLong s store
+  ended-over s store it =
+      let run = history-of (ended_lines it.taken) it.text it.refused it.w it.lines in
+      let front : it.taken ≡ take most_bytes (it.taken ++ it.next ∷ []) = sym (take_at it.taken (it.next ∷ []) most_bytes it.size) in
+      record {
+        outcomes = it.lines.coming;
+        made = it.lines.made;
+        taken = it.taken ++ it.next ∷ [];
+        gives = it.gives;
+        ends_so = record {
+          size = omega (arith, it.size, length-append it.taken (it.next ∷ []));
+          wrote = subst (λ bytes. Grows s.written_before s.written_now (text_of (by_history it.lines.coming) (opening records it.lines.coming) (ended_lines bytes))) front (subst (Grows s.written_before s.written_now) (sym run.text_is) it.written);
+          attempted = subst (λ bytes. attempts records it.lines.coming (ended_lines bytes) ≡ it.lines.made) front run.attempts_are;
+        };
+        stands = subst (Stands faults clock crash records at it.lines.coming it.lines.made) (sym it.store_is) it.lines.stands;
+      }
+
+  -- a cut, with the outcomes and the attempts of its lines
+  record Cut (s : Streams) (taken : List ℕ) (store : StoreState D) : Type 0 where
+    outcomes : List Outcome
+    made : List Attempt
+    cut : IsCut s records outcomes made taken
+    stands : Stands faults clock crash records at outcomes made store
+
+  cut-as : (s : Streams) (taken : List ℕ) (all : List (List ℕ)) (store : StoreState D) → length taken ≤ most_bytes → ((lines : List (List ℕ)) → IsFront lines all → AreLines s taken lines) → WasCut faults clock crash records at all store s.written_before s.written_now → Cut s taken store
+  cut-as s taken all store size are it =
+      let alike = are_alike records it.taken.coming it.lines in
+      record {
+        outcomes = it.taken.coming;
+        made = it.taken.made;
+        cut = record {
+          size = size;
+          lines = it.lines;
+          are = are it.lines (record { rest = it.rest; is = it.front });
+          wrote = subst (GrowsByFront s.written_before s.written_now) (sym (sym alike.text ∙ it.taken.due)) it.written;
+          attempted = sym alike.attempts_made ∙ it.taken.attempted;
+        };
+        stands = it.taken.stands;
+      }
+
+  -- a failure to write the definitions
+  record Failure (s : Streams) (taken : List ℕ) (store : StoreState D) : Type 0 where
+    made : List Attempt
+    undefined : IsUndefined s records [] made taken
+    stands : Stands faults clock crash records at [] made store
+
+  failure-as : (s : Streams) (taken : List ℕ) (all : List (List ℕ)) (store : StoreState D) → length taken ≤ most_bytes → ((lines : List (List ℕ)) → IsFront lines all → AreLines s taken lines) → HasFailed faults clock crash records at all store s.written_before s.written_now → Failure s taken store
+  failure-as s taken all store size are it =
+      let alike = are_alike records [] it.lines in
+      let run = is_run records it.lines [] [] it.text it.refused it.w it.run in
+      let same : with_shared standing_disk (world_at records [] it.lines) ≡ with_shared (store_disk [] []) it.w = sym alike.world ∙ it.run.world in
+      record {
+        made = defining it.w.definitions faulted ∷ [];
+        undefined = record {
+          size = size;
+          lines = it.lines;
+          are = are it.lines (record { rest = it.rest; is = it.front });
+          wrote = subst (Grows s.written_before s.written_now) (sym run.text_is) it.written;
+          no_commits = refl;
+          unopened = unopened-as (world_at records [] it.lines).shared (ap (λ (w : World (OnDisk (List (Object Cell)))). w.shared) same ∙ ap (option_map (store_disk [] [])) it.unopened);
+          attempted = ap (λ (those : List (List ℕ)). defining those faulted ∷ []) (sym (ap (λ (w : World (OnDisk (List (Object Cell)))). w.definitions) same));
+        };
+        stands = it.stands;
+      }
+
+  ended-whole : (s : Streams) (taken : List ℕ) (refused : Bool) (store : StoreState D) (it : HasFinished faults clock crash records at (script_lines taken) refused store s.written_before s.written_now) → IsAtEnd s.left_now → length taken ≤ most_bytes → IsWhole s records it.coming it.made taken refused
+  ended-whole s taken refused store it at_end size =
+      let run = is_run records (script_lines taken) it.coming it.made_before it.text refused it.w it.run in
+      record {
+        at_end = at_end;
+        size = size;
+        wrote = subst (Grows s.written_before s.written_now) (sym run.text_is) it.written;
+        refuses = run.refused_is;
+        attempted = run.all_are ∙ it.last;
+      }
+
+  pub ended_as : (ending : Ending) (s : Streams) (store : StoreState D) → EndsRun faults clock crash records at ending s store → EndedAs ending s store
+  ended_as Accepted s store it = record { outcomes = it.finished.coming; made = it.finished.made; taken = it.taken; gives = it.gives; ends_so = ended-whole s it.taken false store it.finished it.at_end it.size; stands = it.finished.stands }
+  ended_as Refusing s store it = record { outcomes = it.finished.coming; made = it.finished.made; taken = it.taken; gives = it.gives; ends_so = ended-whole s it.taken true store it.finished it.at_end it.size; stands = it.finished.stands }
+  ended_as SourceFault s store it = ended-broken s store it
+  ended_as TooLong s store it = ended-over s store it
+  ended_as SinkFault s store it = ⊎_elim
+      (λ off. let c = cut-as s off.taken (ended_lines off.taken) store off.size (λ lines front. inl front) off.stopped in let them : EndedAs SinkFault s store = record { outcomes = c.outcomes; made = c.made; taken = off.taken; gives = off.gives; ends_so = c.cut; stands = c.stands } in them)
+      (λ off. let c = cut-as s off.taken (script_lines off.taken) store off.size (λ lines front. inr (off.at_end, front)) off.stopped in let them : EndedAs SinkFault s store = record { outcomes = c.outcomes; made = c.made; taken = off.taken; gives = off.gives; ends_so = c.cut; stands = c.stands } in them) it
+  ended_as NoMemory s store it = ⊎_elim
+      (λ off. let c = cut-as s off.taken (ended_lines off.taken) store off.size (λ lines front. inl front) off.stopped in let them : EndedAs NoMemory s store = record { outcomes = c.outcomes; made = c.made; taken = off.taken; gives = off.gives; ends_so = c.cut; stands = c.stands } in them)
+      (λ off. let c = cut-as s off.taken (script_lines off.taken) store off.size (λ lines front. inr (off.at_end, front)) off.stopped in let them : EndedAs NoMemory s store = record { outcomes = c.outcomes; made = c.made; taken = off.taken; gives = off.gives; ends_so = c.cut; stands = c.stands } in them) it
+  ended_as DiskFault s store it = ⊎_elim
+      (λ off. let c = failure-as s off.taken (ended_lines off.taken) store off.size (λ lines front. inl front) off.stopped in let them : EndedAs DiskFault s store = record { outcomes = []; made = c.made; taken = off.taken; gives = off.gives; ends_so = c.undefined; stands = c.stands } in them)
+      (λ off. let c = failure-as s off.taken (script_lines off.taken) store off.size (λ lines front. inr (off.at_end, front)) off.stopped in let them : EndedAs DiskFault s store = record { outcomes = []; made = c.made; taken = off.taken; gives = off.gives; ends_so = c.undefined; stands = c.stands } in them) it
+
+status-five : (ending : Ending) → status_of ending ≡ 5 → ending ≡ DiskFault
+status-five DiskFault is = refl
+status-five Accepted is = let none : ⊥ = omega (arith, is) in absurd none
+status-five Refusing is = let none : ⊥ = omega (arith, is) in absurd none
+status-five SourceFault is = let none : ⊥ = omega (arith, is) in absurd none
+status-five SinkFault is = let none : ⊥ = omega (arith, is) in absurd none
+status-five NoMemory is = let none : ⊥ = omega (arith, is) in absurd none
+status-five TooLong is = let none : ⊥ = omega (arith, is) in absurd none
+
+module _ {D : Type 0} (faults clock : D → ℕ) (crash : D → ℕ → List ℕ → Type 0) where
+  -- ---- the beginning
+
+  pub opened_sound : (store : StoreState D) → IsSound (opened_world store)
+  opened_sound store = record {
+    paired = refl;
+    defined = λ none. subst (λ (found : Option (List (List ℕ))). AreDefinable (unwrap_or found [])) (sym none) (record { few = omega arith; named = refl; distinct = refl });
+    unnamed = λ none. refl;
+    no_sessions = λ none. refl;
+  }
+
+  pub begins : (store : StoreState D) (written : Option (List ℕ)) → store.doubt ≡ None → store.objects ≡ standing integers (workspace_of store.records []) → ((image : List ℕ) → crash store.disk (clock store.disk) image → LeftRecords store.records store.doubt image) → HasPlayed faults clock crash store.records store.disk [] (opened_play store) written written
+  begins store written certain stands images =
+      let P : Option Decoded → Type 0 = λ doubt. Fares store.records [] [] (clock store.disk) (clock store.disk) (crash store.disk) store.records doubt in
+      record {
+        text = [];
+        lines = record {
+          coming = [];
+          made = [];
+          run = run_opened store.records store stands;
+          stands = record {
+            ends = [];
+            fares = subst P (sym certain) (fares_opened store.records (subst (λ doubt. (image : List ℕ) → crash store.disk (clock store.disk) image → LeftRecords store.records doubt image) certain images));
+            few = inl (omega arith);
+            later = later-same faults clock crash store.disk;
+          };
+          is_made = λ none. refl;
+        };
+        line = refl;
+        written = Grows-nothing written;
+      }
+
+  -- memory ran out before anything was taken
+  pub ends_unbegun : (start : Play D) (left written : Option (List ℕ)) → EndsFrom faults clock crash start NoMemory (streams left left written written) start.world.store
+  ends_unbegun start left written = record {
+    ends = λ records at h. inl (record {
+      taken = [];
+      gives = Gives-nothing left;
+      size = omega arith;
+      stopped = cut_before faults clock crash records at (ended_lines []) (ended_lines []) [] h.text start.refused start.world start.world.store written written refl h.lines refl h.written;
+    });
+  }
+
+  -- ---- the whole run
+
+  pub was_opened : (content : D → Option (List ℕ)) (disk : D) (ending : Ending) (s : Streams) (first last : StoreState D) → ((bytes : List ℕ) → content last.disk ≡ Some bytes → crash last.disk (clock last.disk) bytes) → IsTrue (can_replay first.records) → IfSome (content disk) (λ image. HoldsRecords image first.records) → Passed (clock disk) (clock first.disk) (crash disk) (crash first.disk) (crash disk (clock disk)) → faults disk ≤ faults first.disk → EndedAs faults clock crash first.records first.disk ending s last →
+      WasOpened s (contents (content disk) (content last.disk) (faults disk) (faults last.disk)) (clock disk) (clock last.disk) (crash disk) (crash last.disk) (status_of ending)
+  was_opened content disk ending s first last is_image replays holds passed later it = record {
+    records = first.records;
+    replays = replays;
+    holds = holds;
+    ending = ending;
+    is = refl;
+    taken = it.taken;
+    gives = it.gives;
+    outcomes = it.outcomes;
+    made = it.made;
+    ends_so = it.ends_so;
+    few = few-earlier it.outcomes (faults disk) (faults first.disk) (faults last.disk) later it.stands.few;
+    start = clock first.disk;
+    ends = it.stands.ends;
+    as_many = it.stands.fares.as_many;
+    from = passed.later;
+    rise = it.stands.fares.rise;
+    loading = λ moment image from below left. passed.only moment image from (omega (arith, below)) ((it.stands.later.kept moment image below).0 left);
+    crash = it.stands.fares.each;
+    leaves = if-some (content last.disk) (λ image. HoldsLeft first.records it.made (length it.made) image) (λ image told.
+        fares_final first.records it.made it.stands.ends (clock first.disk) (clock last.disk) (crash last.disk) last.records last.doubt it.stands.fares image (is_image image told));
+  }
+
+  pub run_later : (disk : D) (first last : StoreState D) (during : List ℕ → Type 0) → Passed (clock disk) (clock first.disk) (crash disk) (crash first.disk) during → faults disk ≤ faults first.disk → Later faults clock crash first.disk last.disk → Later faults clock crash disk last.disk
+  run_later disk first last during passed later more = record {
+    clock_later = omega (arith, passed.later, more.clock_later);
+    kept = λ moment image below. (
+      λ left. (passed.kept moment image below).0 ((more.kept moment image (omega (arith, below, passed.later))).0 left),
+      λ left. (more.kept moment image (omega (arith, below, passed.later))).1 ((passed.kept moment image below).1 left),
+    );
+    faults_later = omega (arith, later, more.faults_later);
+  }
+
+  pub disk_rose : (records : List Decoded) (at : D) (s : Streams) (store : StoreState D) → EndsRun faults clock crash records at DiskFault s store → Rose (faults at) (faults store.disk)
+  disk_rose records at s store it = ⊎_elim (λ off. off.stopped.rose) (λ off. off.stopped.rose) it
+
+  pub opened_as : (play : Play D) (store : StoreState D) (definitions names : List (List ℕ)) (sessions : List Session) → play ≡ record { world = record { definitions = definitions; store = store; names = names; sessions = sessions }; line = []; refused = false } → definitions ≡ unwrap_or (names_of store.records) [] → names ≡ [] → sessions ≡ [] → play ≡ opened_play store
+  opened_as play store definitions names sessions is defined named none =
+      let of : List (List ℕ) → List (List ℕ) → List Session → Play D = λ definitions names sessions. record { world = record { definitions = definitions; store = store; names = names; sessions = sessions }; line = []; refused = false } in
+      is ∙ ap (λ those. of those names sessions) defined ∙ ap (λ those. of (unwrap_or (names_of store.records) []) those sessions) named ∙ ap (of (unwrap_or (names_of store.records) []) []) none
+
+  pub sound_as : (play : Play D) (store : StoreState D) → play ≡ opened_play store → IsSound play.world
+  sound_as play store is = subst (λ (p : Play D). IsSound p.world) (sym is) (opened_sound store)
+
+  pub ends_as_opened : (play : Play D) (store last other : StoreState D) (ending : Ending) (s : Streams) → play ≡ opened_play store → other ≡ last → EndsFrom faults clock crash play ending s last → EndsFrom faults clock crash (opened_play store) ending s other
+  ends_as_opened play store last other ending s is same it =
+      subst (λ start. EndsFrom faults clock crash start ending s other) is (subst (EndsFrom faults clock crash play ending s) (sym same) it)
+
+  -- a run over a store that was just loaded
+  module _ (content : D → Option (List ℕ)) (disk : D) (ending : Ending) (s : Streams) (first last : StoreState D) (certain : first.doubt ≡ None) (objects : first.objects ≡ standing integers (workspace_of first.records [])) (images : (image : List ℕ) → crash first.disk (clock first.disk) image → LeftRecords first.records first.doubt image)
+      (passed : Passed (clock disk) (clock first.disk) (crash disk) (crash first.disk) (crash disk (clock disk))) (later : faults disk ≤ faults first.disk) (ends : EndsFrom faults clock crash (opened_play first) ending s last) where
+    ended : EndedAs faults clock crash first.records first.disk ending s last
+    ended = ended_as faults clock crash first.records first.disk ending s last (ends.ends first.records first.disk (begins first s.written_before certain objects images))
+
+    pub opened_plays : (after : D) → after ≡ last.disk → ((bytes : List ℕ) → content last.disk ≡ Some bytes → crash last.disk (clock last.disk) bytes) → IsTrue (can_replay first.records) → IfSome (content disk) (λ image. HoldsRecords image first.records) → (status : ℕ) → status ≡ status_of ending → Plays s (contents (content disk) (content after) (faults disk) (faults after)) (clock disk) (clock after) (crash disk) (crash after) status
+    opened_plays after same is_image replays holds status is =
+        let P : D → ℕ → Type 0 = λ after status. WasOpened s (contents (content disk) (content after) (faults disk) (faults after)) (clock disk) (clock after) (crash disk) (crash after) status in
+        inr (subst (λ after. P after status) (sym same) (subst (P last.disk) (sym is) (was_opened content disk ending s first last is_image replays holds passed later ended)))
+
+    pub opened_later : (after : D) → after ≡ last.disk → Later faults clock crash disk after
+    opened_later after same = subst (Later faults clock crash disk) (sym same) (run_later disk first last (crash disk (clock disk)) passed later ended.stands.later)
+
+    pub opened_rose : (after : D) → after ≡ last.disk → (status : ℕ) → status ≡ status_of ending → status ≡ 5 → Rose (faults disk) (faults after)
+    opened_rose after same status is five =
+        let failed : ending ≡ DiskFault = status-five ending (sym is ∙ five) in
+        subst (λ after. Rose (faults disk) (faults after)) (sym same) (rose-earlier (faults disk) (faults first.disk) (faults last.disk) later (disk_rose first.records first.disk s last (subst (λ ending. EndsRun faults clock crash first.records first.disk ending s last) failed (ends.ends first.records first.disk (begins first s.written_before certain objects images)))))
+
+  -- ---- a disk that isn't opened
+
+  pub not_opened : (content : D → Option (List ℕ)) (disk after : D) (fault : LoadFault) (s : Streams) (status : ℕ) → IfSome (content disk) (IsRefused fault) → Tells s.written_before s.written_now fault status → s.left_now ≡ s.left_before → content after ≡ content disk → Passed (clock disk) (clock after) (crash disk) (crash after) (crash disk (clock disk)) → Plays s (contents (content disk) (content after) (faults disk) (faults after)) (clock disk) (clock after) (crash disk) (crash after) status
+  not_opened content disk after fault s status why tells left same passed = inl (record { fault = fault; why = why; tells = tells; left = left; content = same; undisturbed = passed.only })

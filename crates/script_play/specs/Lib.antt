@@ -1,11 +1,9 @@
-pub mod Worlds
-pub mod Script
-pub mod Transcript
-pub mod Ends
-pub mod Fit
-pub mod Extending
-pub mod Sound
+pub mod StoreWorlds
+pub mod Turning
 pub mod Playing
 pub mod Players
+pub mod Statuses
 pub mod Reading
-pub mod Isolation
+pub mod Ends
+pub mod Opened
+pub mod Lent

@@ -1,7 +1,7 @@
 ghost use Rattle.std.specs.Prelude.{◌≡◌};
-ghost use Rattle.script_play.specs.Ends.{status_of};
+ghost use Rattle.script_play.specs.Statuses.{status_of};
 
-/// How a run of `play` ends.
+/// How a run of `play` ends whose disk was opened.
 #[derive(Clone, Copy)]
 pub enum Ending {
     /// The whole script was answered, and no line was refused.
@@ -12,6 +12,8 @@ pub enum Ending {
     SourceFault,
     /// The sink failed.
     SinkFault,
+    /// The disk failed while the definitions were written.
+    DiskFault,
     NoMemory,
     /// The script has more bytes than a script may have.
     TooLong,
@@ -27,6 +29,7 @@ impl Ending {
             Ending::Refusing => 1,
             Ending::SourceFault => 3,
             Ending::SinkFault => 4,
+            Ending::DiskFault => 5,
             Ending::NoMemory => 6,
             Ending::TooLong => 10,
         }

@@ -1,17 +1,21 @@
-//! Plays a script: reads it line by line, answers each line, and writes the answer before the next
-//! line is taken up.
+//! Plays a script on a disk: reads it line by line, answers each line, and writes the answer before
+//! the next line is taken up.
 #![tactic(auto)]
 
+mod command;
+mod dump;
 mod ending;
-mod laws;
+mod lent;
+mod making;
 mod player;
 mod reading;
+mod refusing;
+mod response;
+mod stop;
 #[cfg(test)]
 mod tests;
 mod top;
+mod turn;
 mod world;
 
-pub use laws::{
-    commits_extend_the_latest, grants_have_the_latest, lines_keep_other_sessions, views_fit,
-};
-pub use top::run;
+pub use command::run;

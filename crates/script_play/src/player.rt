@@ -1,29 +1,24 @@
-ghost use Rattle.std.specs.Prelude.{◌≡◌, ◌∷◌, ◌++◌, ◌≤◌, [], length, IfOk, OnOk, OnErr, Err};
+ghost use Rattle.std.specs.Prelude.{◌≡◌, ◌∷◌, ◌≤◌, [], false, OnOk, Ok, Err};
 ghost use Rattle.std.specs.Str.Lines.{strip_carriage_return};
 ghost use Rattle.aw_lists.specs.Faults.{Rose};
-ghost use Rattle.aw_io.specs.Known.{Grows, GrowsByFront};
-ghost use Rattle.script_play.specs.Worlds.{by_objects, answered};
-ghost use Rattle.script_play.specs.Sound.{IsSound};
-ghost use Rattle.script_play.specs.Playing.{Feeds, StopsIn, Finishes, StopsAtEnd, fresh_play};
+ghost use Rattle.script_play.specs.StoreWorlds.{IsSound};
+ghost use Rattle.script_play.specs.Playing.{WritesSo, RespondedSo, FeedsSo, EndsLinesSo, FinishesSo};
 ghost use Rattle.script_play.specs.Players.{play_of};
 
-use crate::world::World;
+use crate::response::Response;
+use crate::stop::Stop;
+use crate::world::StoreWorld;
+use aw_disk::Disk;
 use aw_io::{Sink, put_all};
-use mv_core::Shared;
+use aw_store::Store;
+use ses_step::append_line;
 use std::alloc::Global;
-
-/// Why a player stops before the end of the script.
-#[derive(Clone, Copy)]
-pub enum Stop {
-    SinkFault,
-    NoMemory,
-}
 
 /// Plays the bytes of a script as they come: each line is answered once its end has come.
 #[derive(Drop)]
-pub struct Player {
+pub struct Player<S> {
     alloc: Global,
-    world: World<Shared>,
+    world: StoreWorld<S>,
     line: Vec<u8>,
     refused: bool,
     /// What is to be written for the line that ended.
@@ -42,54 +37,79 @@ fn without_return(line: &[u8]) -> &[u8]
     }
 }
 
-/// Answers a line, writes the answer, and tells whether the line is refused. An `Err` tells that
-/// the sink failed, or that memory ran out; a front of the answer is written then.
-fn respond<K: Sink>(
+/// Writes a response, and tells whether it is a refusal. An `Err` tells that the sink failed, or
+/// that memory ran out; a front of the response is written then.
+fn write<K: Sink>(
     alloc: Global,
-    world: &mut World<Shared>,
+    response: &Response,
+    text: &mut Vec<u8>,
+    out: &mut K,
+) -> Result<bool, Stop>
+    ensures writes { WritesSo response.now result (K.written out.old) (K.written out.new) }
+    ensures later { K.faults out.old ≤ K.faults out.new }
+    ensures cause { result ≡ Err Stop.SinkFault → Rose (K.faults out.old) (K.faults out.new) }
+{
+    text.clear();
+    match append_line(alloc, text, &response.prefix, &response.answer) {
+        Ok(()) => {}
+        Err(_) => return Err(Stop::NoMemory),
+    }
+    match put_all(out, text.as_slice()) {
+        Ok(()) => Ok(response.answer.is_refusal()),
+        Err(_) => Err(Stop::SinkFault),
+    }
+}
+
+/// Answers a line, writes the answer, and tells whether the line is refused. After an `Err` a front
+/// of the answer is written.
+fn respond<D: Disk, K: Sink>(
+    alloc: Global,
+    world: &mut StoreWorld<Store<D>>,
     line: &[u8],
     text: &mut Vec<u8>,
     out: &mut K,
 ) -> Result<bool, Stop>
     requires { IsSound world.old }
-    ensures ok { IfOk result (λ refused. let a = answered by_objects world.old line.now in
-        (refused ≡ a.refused) × (world.new ≡ a.world) × Grows (K.written out.old) (K.written out.new) a.text) }
-    ensures err { OnErr result (GrowsByFront (K.written out.old) (K.written out.new) (answered by_objects world.old line.now).text) }
+    ensures responded { RespondedSo D.faults D.clock D.crash line.now result world.old world.new (K.written out.old) (K.written out.new) }
     ensures sound { OnOk result (IsSound world.new) }
     ensures later { K.faults out.old ≤ K.faults out.new }
     ensures cause { result ≡ Err Stop.SinkFault → Rose (K.faults out.old) (K.faults out.new) }
 {
-    text.clear();
-    let refused = match world.answer(alloc, line, text) {
-        Ok(refused) => refused,
-        Err(_) => return Err(Stop::NoMemory),
-    };
-    match put_all(out, text.as_slice()) {
-        Ok(()) => Ok(refused),
-        Err(_) => Err(Stop::SinkFault),
+    match world.answer(alloc, line) {
+        Ok(Some(response)) => match write(alloc, &response, text, out) {
+            Ok(refused) => Ok(refused),
+            Err(stop) => Err(stop),
+        },
+        Ok(None) => Ok(false),
+        Err(stop) => Err(stop),
     }
 }
 
-impl Player {
-    /// A player that was fed nothing.
-    pub fn new(alloc: Global) -> Player
-        ensures opening { play_of result ≡ fresh_play }
-        ensures sound { IsSound result.world }
+impl<D: Disk> Player<Store<D>> {
+    /// A player in this world that was fed nothing.
+    pub fn new(alloc: Global, world: StoreWorld<Store<D>>) -> Player<Store<D>>
+        ensures fresh { play_of result ≡ record { world = world; line = []; refused = false } }
     {
         Player {
             alloc,
-            world: World::new(alloc),
+            world,
             line: Vec::new(alloc),
             refused: false,
             text: Vec::new(alloc),
         }
     }
 
+    /// The store, as the player leaves it.
+    pub fn into_store(self) -> Store<D>
+        ensures { result ≡ self.world.store }
+    {
+        self.world.store
+    }
+
     /// The line has ended: answers it.
     fn end_line<K: Sink>(&mut self, out: &mut K) -> Result<(), Stop>
         requires { IsSound self.old.world }
-        ensures ok { OnOk result (Feeds (10 ∷ []) (play_of self.old) (K.written out.old) (play_of self.new) (K.written out.new)) }
-        ensures err { OnErr result (StopsIn (10 ∷ []) (play_of self.old) (K.written out.old) (K.written out.new)) }
+        ensures feeds { FeedsSo D.faults D.clock D.crash (10 ∷ []) result (play_of self.old) (K.written out.old) (play_of self.new) (K.written out.new) }
         ensures sound { OnOk result (IsSound self.new.world) }
         ensures later { K.faults out.old ≤ K.faults out.new }
         ensures cause { result ≡ Err Stop.SinkFault → Rose (K.faults out.old) (K.faults out.new) }
@@ -108,8 +128,7 @@ impl Player {
     /// Plays one byte of the script.
     fn feed<K: Sink>(&mut self, byte: u8, out: &mut K) -> Result<(), Stop>
         requires { IsSound self.old.world }
-        ensures ok { OnOk result (Feeds (byte ∷ []) (play_of self.old) (K.written out.old) (play_of self.new) (K.written out.new)) }
-        ensures err { OnErr result (StopsIn (byte ∷ []) (play_of self.old) (K.written out.old) (K.written out.new)) }
+        ensures feeds { FeedsSo D.faults D.clock D.crash (byte ∷ []) result (play_of self.old) (K.written out.old) (play_of self.new) (K.written out.new) }
         ensures sound { OnOk result (IsSound self.new.world) }
         ensures later { K.faults out.old ≤ K.faults out.new }
         ensures cause { result ≡ Err Stop.SinkFault → Rose (K.faults out.old) (K.faults out.new) }
@@ -126,8 +145,7 @@ impl Player {
     /// Plays the next bytes of the script.
     pub fn feed_all<K: Sink>(&mut self, bytes: &[u8], out: &mut K) -> Result<(), Stop>
         requires { IsSound self.old.world }
-        ensures ok { OnOk result (Feeds bytes.now (play_of self.old) (K.written out.old) (play_of self.new) (K.written out.new)) }
-        ensures err { OnErr result (StopsIn bytes.now (play_of self.old) (K.written out.old) (K.written out.new)) }
+        ensures feeds { FeedsSo D.faults D.clock D.crash bytes.now result (play_of self.old) (K.written out.old) (play_of self.new) (K.written out.new) }
         ensures sound { OnOk result (IsSound self.new.world) }
         ensures later { K.faults out.old ≤ K.faults out.new }
         ensures cause { result ≡ Err Stop.SinkFault → Rose (K.faults out.old) (K.faults out.new) }
@@ -141,12 +159,12 @@ impl Player {
         Ok(())
     }
 
-    /// The script has ended: answers its last line, where that has bytes, and tells whether any
-    /// line was refused.
-    pub fn finish<K: Sink>(&mut self, out: &mut K) -> Result<bool, Stop>
+    /// The script has ended: answers its last line, where that has bytes, and tells whether any line
+    /// was refused.
+    fn end_lines<K: Sink>(&mut self, out: &mut K) -> Result<bool, Stop>
         requires { IsSound self.old.world }
-        ensures ok { IfOk result (λ refused. Finishes (play_of self.old) (K.written out.old) refused (K.written out.new)) }
-        ensures err { OnErr result (StopsAtEnd (play_of self.old) (K.written out.old) (K.written out.new)) }
+        ensures ends { EndsLinesSo D.faults D.clock D.crash result (play_of self.old) (K.written out.old) self.new.world (K.written out.new) }
+        ensures sound { OnOk result (IsSound self.new.world) }
         ensures later { K.faults out.old ≤ K.faults out.new }
         ensures cause { result ≡ Err Stop.SinkFault → Rose (K.faults out.old) (K.faults out.new) }
     {
@@ -156,6 +174,23 @@ impl Player {
         }
         match respond(self.alloc, &mut self.world, line, &mut self.text, out) {
             Ok(refused) => Ok(self.refused | refused),
+            Err(stop) => Err(stop),
+        }
+    }
+
+    /// The script has ended: answers its last line, where that has bytes, writes what was only
+    /// defined, and tells whether any line was refused.
+    pub fn finish<K: Sink>(&mut self, out: &mut K) -> Result<bool, Stop>
+        requires { IsSound self.old.world }
+        ensures finishes { FinishesSo D.faults D.clock D.crash result (play_of self.old) (K.written out.old) self.new.world.store (K.written out.new) }
+        ensures later { K.faults out.old ≤ K.faults out.new }
+        ensures cause { result ≡ Err Stop.SinkFault → Rose (K.faults out.old) (K.faults out.new) }
+    {
+        match self.end_lines(out) {
+            Ok(refused) => match self.world.finish(self.alloc) {
+                Ok(()) => Ok(refused),
+                Err(stop) => Err(stop),
+            },
             Err(stop) => Err(stop),
         }
     }

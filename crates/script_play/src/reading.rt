@@ -1,14 +1,16 @@
 ghost use Rattle.std.specs.Prelude.{◌≡◌, ◌≤◌, ◌<◌, length, OnOk, Err};
 ghost use Rattle.aw_lists.specs.Faults.{Rose};
 ghost use Rattle.script_play.specs.declared.ending.Ending.TheVariants as ending;
-ghost use Rattle.script_play.specs.Sound.{IsSound};
-ghost use Rattle.script_play.specs.Playing.{fresh_play};
+ghost use Rattle.script_play.specs.StoreWorlds.{IsSound};
 ghost use Rattle.script_play.specs.Players.{play_of};
-ghost use Rattle.script_play.specs.Reading.{Reads, EndsOrFails, devices, stop_ending};
+ghost use Rattle.script_play.specs.Reading.{ReadsFrom, EndsOrFails, streams, stop_ending};
 
 use crate::ending::Ending;
-use crate::player::{Player, Stop};
+use crate::player::Player;
+use crate::stop::Stop;
+use aw_disk::Disk;
 use aw_io::{Sink, Source, Took};
+use aw_store::Store;
 
 /// How many bytes a script may have.
 pub const MOST_BYTES: usize = 67_108_864;
@@ -19,6 +21,7 @@ pub fn ending_of(stop: Stop) -> Ending
 {
     match stop {
         Stop::SinkFault => Ending::SinkFault,
+        Stop::DiskFault => Ending::DiskFault,
         Stop::NoMemory => Ending::NoMemory,
     }
 }
@@ -39,16 +42,15 @@ fn expect_end<S: Source>(script: &mut S) -> Result<(), Ending>
 
 /// Reads a script to its end in pieces that fit the buffer, and plays each piece before the next is
 /// taken. An `Err` tells how the run ends without the script's end.
-pub fn read<S: Source, K: Sink>(
-    player: &mut Player,
+pub fn read<D: Disk, S: Source, K: Sink>(
+    player: &mut Player<Store<D>>,
     buffer: &mut [u8],
     script: &mut S,
     out: &mut K,
 ) -> Result<(), Ending>
-    requires fresh { play_of player.old ≡ fresh_play }
     requires sound { IsSound player.old.world }
     requires room { 0 < length buffer.old }
-    ensures reads { Reads result (devices (S.left script.old) (S.left script.new) (K.written out.old) (K.written out.new)) (play_of player.new) }
+    ensures reads { ReadsFrom D.faults D.clock D.crash (play_of player.old) result (streams (S.left script.old) (S.left script.new) (K.written out.old) (K.written out.new)) (play_of player.new) }
     ensures sound { OnOk result (IsSound player.new.world) }
     ensures source_later { S.faults script.old ≤ S.faults script.new }
     ensures sink_later { K.faults out.old ≤ K.faults out.new }

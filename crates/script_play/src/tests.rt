@@ -1,5 +1,6 @@
 use super::run;
 use aw_cell::Text;
+use aw_disk::{Disk, MemDisk, Pick, SureDisk};
 use aw_io::{MemSink, MemSource, NoMemory, Sink, Source, SureSink, SureSource};
 use aw_lists::List;
 use std::alloc::Global;
@@ -21,6 +22,18 @@ fn text(bytes: &[u8]) -> Result<Text, Fail> {
     Ok(Text::of(bytes).ok_or("no text")?)
 }
 
+/// A workspace without definitions.
+const EMPTY: &[u8] = b"OLAPMW1\n\0";
+
+/// The workspace that the first course leaves: the definition of `v`, and the commit that sets it to 7.
+const COMMITTED: [u8; 45] = [
+    0x4f, 0x4c, 0x41, 0x50, 0x4d, 0x57, 0x31, 0x0a, 0x01, 0x00, 0x00, 0x00, 0x09, 0x44, 0x01, 0x00,
+    0x01, 0x01, 0x76, 0x03, 0x02, 0x00, 0x01, 0x00, 0x00, 0x00, 0x11, 0x43, 0x01, 0x00, 0x01, 0x00,
+    0x00, 0x4d, 0x00, 0x00, 0x00, 0x00, 0x01, 0x02, 0x00, 0x00, 0x00, 0x07, 0x00,
+];
+
+const DUMP: &[u8] = b"v 2 1\n  = 7\n";
+
 // The number of the one call that is to fail, or none.
 fn listed(alloc: Global, failing: Option<u64>) -> Result<List<u64>, NoMemory> {
     let mut calls = List::new(alloc);
@@ -39,41 +52,75 @@ fn sink(alloc: Global, failing: Option<u64>) -> Result<MemSink, NoMemory> {
     Ok(MemSink::new(List::new(alloc), listed(alloc, failing)?))
 }
 
+fn disk(alloc: Global, bytes: &[u8], failing: Option<u64>) -> Result<MemDisk, NoMemory> {
+    let bytes = List::from_slice(alloc, bytes)?;
+    Ok(MemDisk::new(bytes, listed(alloc, failing)?))
+}
+
 // The status of a run of one word.
-fn run_word<S: Source, K: Sink>(
+fn run_word<S: Source, K: Sink, D: Disk>(
     alloc: Global,
     word: &[u8],
     script: &mut S,
     out: &mut K,
+    disk: &mut D,
 ) -> Result<u8, Fail> {
     let words = [text(word)?];
-    Ok(run(alloc, &words, script, out))
+    Ok(run(alloc, &words, script, out, disk))
 }
 
-// The status of a run of one word over these bytes, and what it wrote. A call of the source and one
-// of the sink may be told to fail.
-fn ran(
-    alloc: Global,
-    word: &[u8],
-    script: &[u8],
+// The calls of the devices that are to fail, one of each at most.
+#[derive(Clone, Copy)]
+struct Failing {
     take: Option<u64>,
     put: Option<u64>,
-) -> Result<(u8, Vec<u8>), Fail> {
-    let mut script = source(alloc, script, take)?;
-    let mut out = sink(alloc, put)?;
-    let status = run_word(alloc, word, &mut script, &mut out)?;
+    disk: Option<u64>,
+}
+
+const NONE: Failing = Failing {
+    take: None,
+    put: None,
+    disk: None,
+};
+
+// The status of a run of one word over these bytes on a disk with these, and what it wrote.
+fn ran(alloc: Global, word: &[u8], script: &[u8], failing: Failing) -> Result<(u8, Vec<u8>), Fail> {
+    let mut script = source(alloc, script, failing.take)?;
+    let mut out = sink(alloc, failing.put)?;
+    let mut disk = disk(alloc, EMPTY, failing.disk)?;
+    let status = run_word(alloc, word, &mut script, &mut out, &mut disk)?;
     Ok((status, out.bytes().to_vec(alloc)?))
 }
 
 fn played(alloc: Global, script: &[u8]) -> Result<(u8, Vec<u8>), Fail> {
-    ran(alloc, b"play", script, None, None)
+    ran(alloc, b"play", script, NONE)
+}
+
+// Whether a run of one word over this script, on a disk with these bytes whose one call fails, has this
+// status, writes this text and leaves these bytes.
+fn leaves(
+    alloc: Global,
+    word: &[u8],
+    script: &[u8],
+    bytes: &[u8],
+    call: Option<u64>,
+    status: u8,
+    written: &[u8],
+    left: &[u8],
+) -> Result<bool, Fail> {
+    let mut script = source(alloc, script, None)?;
+    let mut out = sink(alloc, None)?;
+    let mut disk = disk(alloc, bytes, call)?;
+    let ended = run_word(alloc, word, &mut script, &mut out, &mut disk)?;
+    Ok((ended == status) & (out.bytes() == written) & (disk.bytes() == left))
 }
 
 // A run of `play` over the forms that never fail, with room for so many bytes.
 fn surely_played(alloc: Global, script: &[u8], room: u32) -> Result<(u8, Vec<u8>), Fail> {
     let mut script = SureSource::new(List::from_slice(alloc, script)?);
     let mut out = SureSink::new(alloc, room)?;
-    let status = run_word(alloc, b"play", &mut script, &mut out)?;
+    let mut disk = SureDisk::new(alloc, EMPTY, 45)?;
+    let status = run_word(alloc, b"play", &mut script, &mut out, &mut disk)?;
     Ok((status, out.bytes().to_vec(alloc)?))
 }
 
@@ -255,11 +302,20 @@ fn longest_script(rt: HostRuntime) -> Result<(), Fail> {
 fn other_words(rt: HostRuntime) -> Result<(), Fail> {
     let cases: [(&[u8], Option<u64>, u8, &[u8]); 3] = [
         (b"Play", None, 2, USAGE),
-        (b"new", None, 2, USAGE),
-        (b"new", Some(0), 4, b""),
+        (b"make", None, 2, USAGE),
+        (b"make", Some(0), 4, b""),
     ];
     for (word, put, status, text) in cases {
-        let (ended, written) = ran(rt.alloc(), word, FIRST_COURSE, None, put)?;
+        let (ended, written) = ran(
+            rt.alloc(),
+            word,
+            FIRST_COURSE,
+            Failing {
+                take: None,
+                put,
+                disk: None,
+            },
+        )?;
         assert_eq!(rt; ended, status);
         assert_eq!(rt; written.as_slice(), text);
     }
@@ -275,9 +331,181 @@ fn faults(rt: HostRuntime) -> Result<(), Fail> {
         (None, Some(2), 4, b"a: ok\na: ok\n"),
     ];
     for (take, put, status, transcript) in cases {
-        let (ended, written) = ran(rt.alloc(), b"play", FIRST_COURSE, take, put)?;
+        let (ended, written) = ran(
+            rt.alloc(),
+            b"play",
+            FIRST_COURSE,
+            Failing {
+                take,
+                put,
+                disk: None,
+            },
+        )?;
         assert_eq!(rt; ended, status);
         assert_eq!(rt; written.as_slice(), transcript);
+    }
+    Ok(())
+}
+
+#[test]
+fn what_is_committed_stays(rt: HostRuntime) -> Result<(), Fail> {
+    let alloc = rt.alloc();
+    let later = b"DEFINE w VARIABLE INTEGER\na: AW ATTACH MULTI\na: SHOW v\n";
+    let read = b"*: ERROR 1 1\na: ok\na: 7\n";
+    assert!(rt;
+        leaves(
+            alloc,
+            b"play",
+            FIRST_COURSE,
+            EMPTY,
+            None,
+            0,
+            FIRST_TRANSCRIPT,
+            &COMMITTED
+        )?
+    );
+    assert!(rt; leaves(alloc, b"dump", b"", &COMMITTED, None, 0, DUMP, &COMMITTED)?);
+    assert!(rt; leaves(alloc, b"play", later, &COMMITTED, None, 1, read, &COMMITTED)?);
+    assert!(rt; leaves(alloc, b"play", b"", EMPTY, None, 0, b"", EMPTY)?);
+    Ok(())
+}
+
+#[test]
+fn what_is_defined_stays(rt: HostRuntime) -> Result<(), Fail> {
+    let alloc = rt.alloc();
+    let script = b"DEFINE v VARIABLE INTEGER\n";
+    let mut defined = [0; 23];
+    defined.copy_from_slice(&COMMITTED[..23]);
+    defined[22] = 0;
+    assert!(rt; leaves(alloc, b"play", script, EMPTY, None, 0, b"", &defined)?);
+    assert!(rt; leaves(alloc, b"dump", b"", &defined, None, 0, b"v 1 0\n", &defined)?);
+    Ok(())
+}
+
+#[test]
+fn a_commit_after_a_disk_fault_repairs(rt: HostRuntime) -> Result<(), Fail> {
+    let script = b"DEFINE v VARIABLE INTEGER\n\
+        a: AW ATTACH MULTI\n\
+        a: ACQUIRE v\n\
+        a: v = 7\n\
+        a: UPDATE\n\
+        a: COMMIT\n\
+        a: COMMIT\n\
+        a: SHOW v\n";
+    let transcript = b"a: ok\na: ok\na: ok\na: ok\na: ERROR 30\na: ok\na: 7\n";
+    // Three calls load the disk, four write the definitions, and the fourth of the commit fails.
+    let call = Some(10);
+    assert!(rt;
+        leaves(
+            rt.alloc(),
+            b"play",
+            script,
+            EMPTY,
+            call,
+            1,
+            transcript,
+            &COMMITTED
+        )?
+    );
+    Ok(())
+}
+
+#[test]
+fn other_disks(rt: HostRuntime) -> Result<(), Fail> {
+    let alloc = rt.alloc();
+    let cut = &COMMITTED[..30];
+    assert!(rt;
+        leaves(
+            alloc,
+            b"play",
+            FIRST_COURSE,
+            b"OLAPM",
+            None,
+            7,
+            b"NOT A WORKSPACE\n",
+            b"OLAPM"
+        )?
+    );
+    assert!(rt;
+        leaves(
+            alloc,
+            b"play",
+            FIRST_COURSE,
+            cut,
+            None,
+            8,
+            b"DAMAGED 22\n",
+            cut
+        )?
+    );
+    assert!(rt; leaves(alloc, b"dump", b"", cut, None, 8, b"DAMAGED 22\n", cut)?);
+    assert!(rt; leaves(alloc, b"new", b"", b"", None, 0, b"ok\n", EMPTY)?);
+    assert!(rt;
+        leaves(
+            alloc,
+            b"new",
+            b"",
+            cut,
+            None,
+            9,
+            b"ALREADY A WORKSPACE\n",
+            cut
+        )?
+    );
+    Ok(())
+}
+
+#[test]
+fn disk_faults(rt: HostRuntime) -> Result<(), Fail> {
+    let alloc = rt.alloc();
+    assert!(rt; leaves(alloc, b"play", FIRST_COURSE, EMPTY, Some(0), 5, b"", EMPTY)?);
+    assert!(rt; leaves(alloc, b"dump", b"", &COMMITTED, Some(2), 5, b"", &COMMITTED)?);
+    assert!(rt; leaves(alloc, b"new", b"", EMPTY, Some(0), 5, b"", EMPTY)?);
+    // The definitions can't be synced.
+    let (status, written) = ran(
+        alloc,
+        b"play",
+        FIRST_COURSE,
+        Failing {
+            take: None,
+            put: None,
+            disk: Some(4),
+        },
+    )?;
+    assert_eq!(rt; status, 5);
+    assert!(rt; written.is_empty());
+    Ok(())
+}
+
+// The disk that the first course left, with all its moments.
+fn played_disk(alloc: Global) -> Result<MemDisk, Fail> {
+    let mut script = source(alloc, FIRST_COURSE, None)?;
+    let mut out = sink(alloc, None)?;
+    let mut disk = disk(alloc, EMPTY, None)?;
+    let _ = run_word(alloc, b"play", &mut script, &mut out, &mut disk)?;
+    Ok(disk)
+}
+
+// Whether a disk with these bytes is dumped, as before the definitions, before the commit or after it.
+fn dumps_a_prefix(alloc: Global, bytes: &[u8]) -> Result<bool, Fail> {
+    let mut script = source(alloc, b"", None)?;
+    let mut out = sink(alloc, None)?;
+    let mut disk = disk(alloc, bytes, None)?;
+    let status = run_word(alloc, b"dump", &mut script, &mut out, &mut disk)?;
+    let text = out.bytes();
+    Ok((status == 0) & (text.is_empty() | (text == b"v 1 0\n".as_slice()) | (text == DUMP)))
+}
+
+#[test]
+fn a_crash_at_any_moment_leaves_a_prefix(rt: HostRuntime) -> Result<(), Fail> {
+    let alloc = rt.alloc();
+    let disk = played_disk(alloc)?;
+    let picks = [Pick::Kept, Pick::Old, Pick::Fill(1), Pick::Fill(255)];
+    for moment in 0..disk.moments() {
+        for pick in picks {
+            let image = disk.image(alloc, moment, pick)?;
+            assert!(rt; dumps_a_prefix(alloc, image.as_slice())?);
+        }
     }
     Ok(())
 }

@@ -1,43 +1,29 @@
-ghost use Rattle.std.specs.Prelude.{◌≡◌, ◌<◌, ◌≤◌, IfOk, IsTrue, false, length, vec_len};
-ghost use Rattle.script_play.specs.Playing.{fresh_play};
+ghost use Rattle.std.specs.Prelude.{◌≡◌, ◌<◌, ◌≤◌, [], IfOk, length, vec_len, unwrap_or};
 ghost use Rattle.aw_lists.specs.Faults.{Rose};
+ghost use Rattle.aw_store.specs.Replay.{names_of};
 ghost use Rattle.script_play.specs.declared.ending.Ending.TheVariants as ending;
-ghost use Rattle.script_play.specs.Ends as spec;
-ghost use Rattle.script_play.specs.Sound.{IsSound};
+ghost use Rattle.script_play.specs.StoreWorlds.{IsSound};
 ghost use Rattle.script_play.specs.Players.{play_of};
-ghost use Rattle.script_play.specs.Reading.{FinishesBy, devices};
+ghost use Rattle.script_play.specs.Reading.{EndsFrom, FinishesBy, streams};
+ghost use Rattle.script_play.specs.Opened.{opened_play};
+ghost use Rattle.script_play.specs.Ends.{Plays, contents};
+ghost use Rattle.script_play.specs.Turning.{Later};
 
 use crate::ending::Ending;
 use crate::player::Player;
 use crate::reading::{ending_of, read};
+use crate::refusing::refuse;
+use crate::world::StoreWorld;
 use aw_cell::Text;
-use aw_io::{Sink, Source, put_all};
+use aw_disk::Disk;
+use aw_io::{Sink, Source};
+use aw_lists::List;
+use aw_store::Store;
+use ses_step::Names;
 use std::alloc::{AllocError, Global};
-
-const USAGE: &[u8] = b"usage: play, new, dump, make N\n";
 
 /// How many bytes of the script are asked for at a time.
 const PIECE: usize = 65_536;
-
-fn is_play(words: &[Text]) -> bool
-    ensures { result ≡ spec.is_play words.now }
-{
-    match words {
-        [word] => word.bytes() == b"play".as_slice(),
-        _ => false,
-    }
-}
-
-fn usage<K: Sink>(out: &mut K) -> u8
-    ensures refuses { spec.Refuses (K.written out.old) (K.written out.new) result }
-    ensures later { K.faults out.old ≤ K.faults out.new }
-    ensures cause { result ≡ 4 → Rose (K.faults out.old) (K.faults out.new) }
-{
-    match put_all(out, USAGE) {
-        Ok(()) => 2,
-        Err(_) => 4,
-    }
-}
 
 fn buffer(alloc: Global) -> Result<Vec<u8>, AllocError>
     ensures { IfOk result (λ bytes. vec_len bytes ≡ 65536) }
@@ -45,10 +31,37 @@ fn buffer(alloc: Global) -> Result<Vec<u8>, AllocError>
     vec![in alloc; 0; PIECE]
 }
 
-/// The script has ended: answers its last line.
-fn finish<K: Sink>(player: &mut Player, out: &mut K) -> Ending
+fn listed_names(alloc: Global, listed: &[Text]) -> Result<Names, AllocError>
+    ensures { IfOk result (λ names. names ≡ listed.now) }
+{
+    let mut names = Names::new(alloc);
+    for name in listed {
+        match names.push(*name) {
+            Ok(()) => {}
+            Err(full) => return Err(full),
+        }
+    }
+    Ok(names)
+}
+
+/// The names of the objects of a store in order of definition, which are none where nothing is
+/// defined.
+fn defined_names<D: Disk>(alloc: Global, store: &Store<D>) -> Result<Names, AllocError>
+    ensures { IfOk result (λ names. names ≡ unwrap_or (names_of store.now.records) []) }
+{
+    match store.names() {
+        Some(listed) => match listed_names(alloc, listed.as_slice()) {
+            Ok(names) => Ok(names),
+            Err(full) => Err(full),
+        },
+        None => Ok(Names::new(alloc)),
+    }
+}
+
+/// The script has ended: answers its last line, and writes what was only defined.
+fn finish<D: Disk, K: Sink>(player: &mut Player<Store<D>>, out: &mut K) -> Ending
     requires { IsSound player.old.world }
-    ensures finishes { FinishesBy result (play_of player.old) (K.written out.old) (K.written out.new) }
+    ensures finishes { FinishesBy D.faults D.clock D.crash result (play_of player.old) (K.written out.old) player.new.world.store (K.written out.new) }
     ensures later { K.faults out.old ≤ K.faults out.new }
     ensures cause { result ≡ ending.SinkFault → Rose (K.faults out.old) (K.faults out.new) }
 {
@@ -60,16 +73,15 @@ fn finish<K: Sink>(player: &mut Player, out: &mut K) -> Ending
 }
 
 /// Plays a script with a player and a buffer that were made for it.
-fn play_with<S: Source, K: Sink>(
-    player: &mut Player,
+fn play_with<D: Disk, S: Source, K: Sink>(
+    player: &mut Player<Store<D>>,
     buffer: &mut [u8],
     script: &mut S,
     out: &mut K,
 ) -> Ending
-    requires fresh { play_of player.old ≡ fresh_play }
     requires sound { IsSound player.old.world }
     requires room { 0 < length buffer.old }
-    ensures played { spec.Played (devices (S.left script.old) (S.left script.new) (K.written out.old) (K.written out.new)) (spec.status_of result) }
+    ensures ends { EndsFrom D.faults D.clock D.crash (play_of player.old) result (streams (S.left script.old) (S.left script.new) (K.written out.old) (K.written out.new)) player.new.world.store }
     ensures source_later { S.faults script.old ≤ S.faults script.new }
     ensures sink_later { K.faults out.old ≤ K.faults out.new }
     ensures source_cause { result ≡ ending.SourceFault → Rose (S.faults script.old) (S.faults script.new) }
@@ -81,49 +93,92 @@ fn play_with<S: Source, K: Sink>(
     }
 }
 
-fn play<S: Source, K: Sink>(alloc: Global, script: &mut S, out: &mut K) -> Ending
-    ensures played { spec.Played (devices (S.left script.old) (S.left script.new) (K.written out.old) (K.written out.new)) (spec.status_of result) }
+/// How a run ended, and the store that it left.
+#[derive(Drop)]
+pub struct Ended<S> {
+    pub ending: Ending,
+    pub store: S,
+}
+
+/// Plays a script over a store that was just loaded.
+pub fn play_over<D: Disk, S: Source, K: Sink>(
+    alloc: Global,
+    script: &mut S,
+    out: &mut K,
+    store: Store<D>,
+) -> Ended<Store<D>>
+    ensures ends { EndsFrom D.faults D.clock D.crash (opened_play store) result.ending (streams (S.left script.old) (S.left script.new) (K.written out.old) (K.written out.new)) result.store }
     ensures source_later { S.faults script.old ≤ S.faults script.new }
     ensures sink_later { K.faults out.old ≤ K.faults out.new }
-    ensures source_cause { result ≡ ending.SourceFault → Rose (S.faults script.old) (S.faults script.new) }
-    ensures sink_cause { result ≡ ending.SinkFault → Rose (K.faults out.old) (K.faults out.new) }
+    ensures source_cause { result.ending ≡ ending.SourceFault → Rose (S.faults script.old) (S.faults script.new) }
+    ensures sink_cause { result.ending ≡ ending.SinkFault → Rose (K.faults out.old) (K.faults out.new) }
 {
-    match buffer(alloc) {
-        Ok(mut buffer) => {
-            let mut player = Player::new(alloc);
-            play_with(&mut player, buffer.as_mut_slice(), script, out)
+    let definitions = match defined_names(alloc, &store) {
+        Ok(definitions) => definitions,
+        Err(_) => {
+            return Ended {
+                ending: Ending::NoMemory,
+                store,
+            };
         }
-        Err(_) => Ending::NoMemory,
+    };
+    let mut buffer = match buffer(alloc) {
+        Ok(buffer) => buffer,
+        Err(_) => {
+            return Ended {
+                ending: Ending::NoMemory,
+                store,
+            };
+        }
+    };
+    let world = StoreWorld {
+        definitions,
+        store,
+        names: Names::new(alloc),
+        sessions: List::new(alloc),
+    };
+    let mut player = Player::new(alloc, world);
+    let ending = play_with(&mut player, buffer.as_mut_slice(), script, out);
+    Ended {
+        ending,
+        store: player.into_store(),
     }
 }
 
-/// Plays the script that the source gives, and writes the transcript to the sink, by
-/// docs/LANGUAGE.md, 'Scripts', 'Statements' and 'Refusals': each line is answered, and the answer
-/// is written, before the next is taken up. The words are those of the command line behind the
-/// program's name, and the one command is `play`.
-///
-/// The answer is the status of the run, by docs/LANGUAGE.md, 'Statuses':
-///
-/// - 0: the script was read to its end, and no line was refused.
-/// - 1: the script was read to its end, and some line was refused.
-/// - 2: the words are no command. The usage line is written, and the script is left alone.
-/// - 3: the source failed. The lines that ended in the bytes taken are answered.
-/// - 4: the sink failed. A front of what was due is written.
-/// - 6: memory ran out. A front of what was due is written.
-/// - 10: the script has more than 67,108,864 bytes. The lines that ended in as many are answered.
-pub fn run<S: Source, K: Sink>(alloc: Global, words: &[Text], script: &mut S, out: &mut K) -> u8
-    ensures plays { IsTrue (spec.is_play words.now)
-        → spec.Played (devices (S.left script.old) (S.left script.new) (K.written out.old) (K.written out.new)) result }
-    ensures refuses { spec.is_play words.now ≡ false → spec.Refuses (K.written out.old) (K.written out.new) result }
-    ensures untouched { spec.is_play words.now ≡ false → script.new ≡ script.old }
+/// The status of a run, and the disk that it left.
+#[derive(Drop)]
+pub struct Ran<D> {
+    pub status: u8,
+    pub disk: D,
+}
+
+/// Opens a disk, and plays a script on it.
+pub fn play<D: Disk, S: Source, K: Sink>(
+    alloc: Global,
+    script: &mut S,
+    out: &mut K,
+    disk: D,
+) -> Ran<D>
+    ensures plays { Plays (streams (S.left script.old) (S.left script.new) (K.written out.old) (K.written out.new)) (contents (D.content disk) (D.content result.disk) (D.faults disk) (D.faults result.disk)) (D.clock disk) (D.clock result.disk) (D.crash disk) (D.crash result.disk) result.status }
+    ensures time { Later D.faults D.clock D.crash disk result.disk }
     ensures source_later { S.faults script.old ≤ S.faults script.new }
     ensures sink_later { K.faults out.old ≤ K.faults out.new }
-    ensures source_cause { result ≡ 3 → Rose (S.faults script.old) (S.faults script.new) }
-    ensures sink_cause { result ≡ 4 → Rose (K.faults out.old) (K.faults out.new) }
+    ensures source_cause { result.status ≡ 3 → Rose (S.faults script.old) (S.faults script.new) }
+    ensures sink_cause { result.status ≡ 4 → Rose (K.faults out.old) (K.faults out.new) }
+    ensures disk_cause { result.status ≡ 5 → Rose (D.faults disk) (D.faults result.disk) }
 {
-    if is_play(words) {
-        play(alloc, script, out).status()
-    } else {
-        usage(out)
+    match Store::load(alloc, disk) {
+        Ok(store) => {
+            store.stands();
+            let ended = play_over(alloc, script, out, store);
+            Ran {
+                status: ended.ending.status(),
+                disk: ended.store.into_disk(),
+            }
+        }
+        Err((fault, disk)) => Ran {
+            status: refuse(alloc, fault, out),
+            disk,
+        },
     }
 }

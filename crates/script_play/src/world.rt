@@ -1,26 +1,29 @@
-ghost use Rattle.std.specs.Prelude.{◌≡◌, ◌++◌, ◌<◌, ◌≤◌, IfOk, OnOk, IsSome, true, Some, length, slice_set, slice_index_or};
-ghost use Rattle.ses_step.specs.Answers.{answer_line, is_refusal, no_form};
-ghost use Rattle.ses_step.specs.declared.answer.Answer.TheVariants.{Refused};
-ghost use Rattle.ses_step.specs.Sessions.{name_at, new_session};
-ghost use Rattle.script_play.specs.Worlds as spec;
-ghost use Rattle.script_play.specs.Worlds.{by_objects};
-ghost use Rattle.script_play.specs.Sound.{IsSound, HasAnswered};
-ghost use Rattle.script_play.specs.Transcript.{opening};
+ghost use Rattle.std.specs.Prelude.{◌≡◌, ◌&&◌, ◌<◌, IfOk, OnOk, OnErr, IsSome, None, Some, true, false, is_none, nat_lt, length, slice_index_or, Err};
+ghost use Rattle.aw_cell.specs.Names.{is_name};
+ghost use Rattle.aw_store.specs.Replay.{names_of};
+ghost use Rattle.ses_step.specs.Sessions.{new_session};
+ghost use Rattle.ses_step.specs.Words.{place_of};
+ghost use Rattle.script_world.specs.Worlds as spec;
+ghost use Rattle.script_play.specs.StoreWorlds.{IsSound, JoinsSo, can_join, own_place, placed};
+ghost use Rattle.script_play.specs.Turning.{TurnsAt, TurnWants, Answers, Wants, OpensSo, ClosesSo, FinishesWorldSo, RespondsSo, IsOpen, DefinesName, command_means, session_means, named_means, form_means, line_means};
 
+use crate::response::Response;
+use crate::stop::Stop;
+use crate::turn::take_turn;
 use aw_cell::Text;
+use aw_disk::Disk;
 use aw_lists::List;
-use mv_core::Shared;
-use ses_step::{
-    Answer, Begun, Command, Line, Names, Refusal, Session, append_line, name_at, read_line,
-};
+use aw_store::{Store, StoreFault};
+use ses_step::{Answer, Command, Line, Names, Session, name_at, read_line};
 use std::alloc::{AllocError, Global};
 
-/// The world of a run: the names of the objects in order of definition, the shared state once the
-/// definitions are closed, and the names and the states of the sessions by first appearance.
+/// The world of a run: the names of the objects in order of definition, the store, which is the
+/// shared state once it has definitions, and the names and the states of the sessions by first
+/// appearance.
 #[derive(Drop)]
-pub struct World<S> {
+pub struct StoreWorld<S> {
     pub definitions: Names,
-    pub shared: Option<S>,
+    pub store: S,
     pub names: Names,
     pub sessions: List<Session>,
 }
@@ -31,134 +34,130 @@ fn no_session() -> Text
     Text::of(b"*").unwrap()
 }
 
-/// Answers with refusal 1, under a prefix.
-fn refuse(alloc: Global, out: &mut Vec<u8>, prefix: &Text) -> Result<bool, AllocError>
-    ensures { IfOk result (λ refused. (refused ≡ true)
-        × (out.new.items ≡ out.old.items ++ answer_line prefix.now (Refused no_form))) }
-{
-    append_line(alloc, out, prefix, &Answer::Refused(Refusal::no_form()))?;
-    Ok(true)
-}
-
-/// Writes an answer, and tells whether it is a refusal.
-fn respond(
+/// A command of the session at a place.
+fn take_turn_at<D: Disk>(
     alloc: Global,
-    out: &mut Vec<u8>,
-    prefix: &Text,
-    answer: &Answer,
-) -> Result<bool, AllocError>
-    ensures { IfOk result (λ refused. (refused ≡ is_refusal answer.now)
-        × (out.new.items ≡ out.old.items ++ answer_line prefix.now answer.now)) }
-{
-    append_line(alloc, out, prefix, answer)?;
-    Ok(answer.is_refusal())
-}
-
-/// A command of a session: it answers, or asks the shared state and answers by the reply.
-fn take_turn(
-    alloc: Global,
-    definitions: &Names,
-    names: &[Text],
-    shared: &mut Shared,
-    session: &mut Session,
-    command: &Command,
-) -> Result<Answer, AllocError>
-    ensures { IfOk result (λ answer. let t = spec.turn by_objects definitions.now names.now shared.old session.old command.now in
-        (answer ≡ t.answer) × (session.new ≡ t.session) × (shared.new ≡ t.shared)) }
-{
-    match session.begin(alloc, definitions, command)? {
-        Begun::Said(answer) => Ok(answer),
-        Begun::Ask(entry) => {
-            let reply = shared.act(&entry);
-            session.finish(alloc, definitions.as_slice(), names, &entry, &reply)
-        }
-    }
-}
-
-/// A command of the session at a place, answered under its name. Tells whether it is refused.
-fn take_turn_at(
-    alloc: Global,
-    definitions: &Names,
-    names: &[Text],
-    shared: &mut Shared,
-    sessions: &mut List<Session>,
+    world: &mut StoreWorld<Store<D>>,
     who: usize,
     command: &Command,
-    out: &mut Vec<u8>,
-) -> Result<bool, AllocError>
-    requires { who < length sessions.old }
-    ensures { IfOk result (λ refused. let t = spec.turn by_objects definitions.now names.now shared.old
-        (slice_index_or sessions.old who (new_session who)) command.now in
-        (refused ≡ is_refusal t.answer) × (out.new.items ≡ out.old.items ++ answer_line (name_at names.now who) t.answer)
-        × (sessions.new ≡ slice_set sessions.old who t.session) × (shared.new ≡ t.shared)) }
+) -> Result<Answer, AllocError>
+    requires { who < length world.old.sessions }
+    ensures ok { IfOk result (λ answer. TurnsAt D.faults D.clock D.crash command.now answer who world.old world.new) }
+    ensures err { OnErr result (TurnWants D.faults D.clock D.crash world.old.definitions world.old.names command.now (slice_index_or world.old.sessions who (new_session who)) world.old.store world.new.store) }
 {
+    let StoreWorld {
+        definitions,
+        store,
+        names,
+        sessions,
+    } = world;
     let session = sessions.at_mut(who);
-    match take_turn(alloc, definitions, names, shared, session, command) {
-        Ok(answer) => respond(alloc, out, &name_at(names, who), &answer),
+    match take_turn(
+        alloc,
+        definitions,
+        names.as_slice(),
+        store,
+        session,
+        command,
+    ) {
+        Ok(answer) => Ok(answer),
         Err(full) => Err(full),
     }
 }
 
-impl World<Shared> {
-    /// The world before the first line.
-    pub fn new(alloc: Global) -> World<Shared>
-        ensures opening { result ≡ opening }
-        ensures sound { IsSound result }
+impl<D: Disk> StoreWorld<Store<D>> {
+    /// Whether the definitions are still to be written.
+    fn is_unopened(&self) -> bool
+        ensures { result ≡ is_none (names_of self.now.store.records) }
     {
-        World {
-            definitions: Names::new(alloc),
-            shared: None,
-            names: Names::new(alloc),
-            sessions: List::new(alloc),
+        match self.store.names() {
+            Some(_) => false,
+            None => true,
         }
     }
 
     fn can_define(&self, name: &Text) -> bool
-        ensures { result ≡ spec.can_define self.now name.now }
+        ensures { result ≡ can_join self.now name.now }
     {
-        self.shared.is_none()
-            && self.definitions.len() < 4096
-            && self.definitions.find(name).is_none()
+        self.is_unopened() && self.definitions.len() < 4096 && self.definitions.find(name).is_none()
     }
 
-    fn define(&mut self, alloc: Global, name: Text, out: &mut Vec<u8>) -> Result<bool, AllocError>
-        requires { IsSound self.old }
-        ensures answered { HasAnswered result out.old.items out.new.items self.new (spec.defined self.old name) }
-        ensures sound { IsSound self.new }
+    fn define(&mut self, name: Text) -> Result<Option<Response>, AllocError>
+        ensures ok { IfOk result (λ response. JoinsSo name response self.old self.new) }
+        ensures err { OnErr result (self.new ≡ self.old) }
     {
         if !self.can_define(&name) {
-            return refuse(alloc, out, &no_session());
+            return Ok(Some(Response::refused(no_session())));
         }
-        self.definitions.push(name)?;
-        Ok(false)
+        match self.definitions.push(name) {
+            Ok(()) => Ok(None),
+            Err(full) => Err(full),
+        }
     }
 
-    /// Closes the definitions, and opens the shared state with the objects defined.
-    fn close(&mut self, alloc: Global) -> Result<(), AllocError>
-        requires { IsSound self.old }
-        ensures closed { OnOk result (self.new ≡ spec.closed by_objects self.old) }
-        ensures sound { IsSound self.new }
+    /// Writes the definitions, where there are none on the disk.
+    pub fn open(&mut self, alloc: Global) -> Result<(), Stop>
+        requires sound { IsSound self.old }
+        requires unopened { names_of self.old.store.records ≡ None }
+        ensures opens { OpensSo D.faults D.clock D.crash result self.old self.new }
     {
-        if self.shared.is_none() {
-            self.shared = Some(Shared::new(alloc, self.definitions.len() as u16)?);
+        self.store.stands();
+        let names = match List::from_slice(alloc, self.definitions.as_slice()) {
+            Ok(names) => names,
+            Err(_) => return Err(Stop::NoMemory),
+        };
+        match self.store.define(names) {
+            Ok(()) => Ok(()),
+            Err(StoreFault::DiskFault) => Err(Stop::DiskFault),
+            Err(StoreFault::NoMemory) => Err(Stop::NoMemory),
+            Err(StoreFault::Defined) => unreachable!(),
         }
-        Ok(())
+    }
+
+    /// Closes the definitions: the first time they are written.
+    fn close(&mut self, alloc: Global) -> Result<(), Stop>
+        requires { IsSound self.old }
+        ensures closes { ClosesSo D.faults D.clock D.crash result self.old self.new }
+    {
+        if !self.is_unopened() {
+            return Ok(());
+        }
+        match self.open(alloc) {
+            Ok(()) => Ok(()),
+            Err(stop) => Err(stop),
+        }
+    }
+
+    /// The script has ended: writes what was only defined.
+    pub fn finish(&mut self, alloc: Global) -> Result<(), Stop>
+        requires { IsSound self.old }
+        ensures finishes { FinishesWorldSo D.faults D.clock D.crash result self.old self.new }
+    {
+        if !self.is_unopened() {
+            return Ok(());
+        }
+        if self.definitions.len() == 0 {
+            return Ok(());
+        }
+        match self.open(alloc) {
+            Ok(()) => Ok(()),
+            Err(stop) => Err(stop),
+        }
     }
 
     fn session_place(&self, name: &Text) -> usize
-        ensures { result ≡ spec.session_place self.now name.now }
+        ensures { result ≡ own_place self.now name.now }
     {
         self.names.find(name).unwrap_or(self.names.len())
     }
 
     /// Gives a name its place; one that hasn't appeared yet makes a session.
     fn add_session(&mut self, name: Text) -> Result<(), AllocError>
-        requires sound { IsSound self.old }
-        requires room { spec.session_place self.old name < 64 }
-        ensures added { OnOk result (self.new ≡ spec.with_session self.old name) }
-        ensures sound { OnOk result (IsSound self.new) }
-        ensures placed { OnOk result (spec.session_place self.old name < length self.new.sessions) }
-        ensures shared { self.new.shared ≡ self.old.shared }
+        requires sound { length self.old.sessions ≡ length self.old.names }
+        requires room { own_place self.old name < 64 }
+        ensures added { OnOk result (self.new ≡ placed self.old name) }
+        ensures there { OnOk result (own_place self.old name < length self.new.sessions) }
+        ensures store { self.new.store ≡ self.old.store }
     {
         let who = self.session_place(&name);
         if who < self.names.len() {
@@ -168,53 +167,25 @@ impl World<Shared> {
         self.sessions.push(Session::new(who as u32))
     }
 
-    /// A command of the session at a place.
-    fn turn(
-        &mut self,
-        alloc: Global,
-        who: usize,
-        command: &Command,
-        out: &mut Vec<u8>,
-    ) -> Result<bool, AllocError>
-        requires sound { IsSound self.old }
-        requires placed { who < length self.old.sessions }
-        requires closed { IsSome self.old.shared }
-        ensures answered { HasAnswered result out.old.items out.new.items self.new
-            (spec.commanded by_objects self.old who (Some command.now)) }
-        ensures sound { OnOk result (IsSound self.new) }
-    {
-        let Some(shared) = &mut self.shared else {
-            unreachable!();
-        };
-        take_turn_at(
-            alloc,
-            &self.definitions,
-            self.names.as_slice(),
-            shared,
-            &mut self.sessions,
-            who,
-            command,
-            out,
-        )
-    }
-
     /// What follows the prefix of the session at a place.
     fn command(
         &mut self,
         alloc: Global,
         who: usize,
         command: Option<Command>,
-        out: &mut Vec<u8>,
-    ) -> Result<bool, AllocError>
-        requires sound { IsSound self.old }
+    ) -> Result<Response, AllocError>
         requires placed { who < length self.old.sessions }
-        requires closed { IsSome self.old.shared }
-        ensures answered { HasAnswered result out.old.items out.new.items self.new (spec.commanded by_objects self.old who command) }
-        ensures sound { OnOk result (IsSound self.new) }
+        requires closed { IsOpen self.old.store }
+        ensures ok { IfOk result (λ response. Answers D.faults D.clock D.crash (command_means who command) (Some response) self.old self.new) }
+        ensures err { OnErr result (Wants D.faults D.clock D.crash (command_means who command) self.old self.new) }
     {
+        let prefix = name_at(self.names.as_slice(), who);
         match command {
-            Some(command) => self.turn(alloc, who, &command, out),
-            None => refuse(alloc, out, &name_at(self.names.as_slice(), who)),
+            Some(command) => match take_turn_at(alloc, self, who, &command) {
+                Ok(answer) => Ok(Response { prefix, answer }),
+                Err(full) => Err(full),
+            },
+            None => Ok(Response::refused(prefix)),
         }
     }
 
@@ -224,19 +195,23 @@ impl World<Shared> {
         alloc: Global,
         name: Text,
         command: Option<Command>,
-        out: &mut Vec<u8>,
-    ) -> Result<bool, AllocError>
-        requires sound { IsSound self.old }
-        requires closed { IsSome self.old.shared }
-        ensures answered { HasAnswered result out.old.items out.new.items self.new (spec.session_answered by_objects self.old name command) }
-        ensures sound { OnOk result (IsSound self.new) }
+    ) -> Result<Response, AllocError>
+        requires paired { length self.old.sessions ≡ length self.old.names }
+        requires closed { IsOpen self.old.store }
+        ensures ok { IfOk result (λ response. Answers D.faults D.clock D.crash (session_means name command) (Some response) self.old self.new) }
+        ensures err { OnErr result (Wants D.faults D.clock D.crash (session_means name command) self.old self.new) }
     {
         let who = self.session_place(&name);
         if who >= 64 {
-            return refuse(alloc, out, &no_session());
+            return Ok(Response::refused(no_session()));
         }
-        self.add_session(name)?;
-        self.command(alloc, who, command, out)
+        match self.add_session(name) {
+            Ok(()) => match self.command(alloc, who, command) {
+                Ok(response) => Ok(response),
+                Err(full) => Err(full),
+            },
+            Err(full) => Err(full),
+        }
     }
 
     /// A line under the name of a session, which closes the definitions.
@@ -245,34 +220,47 @@ impl World<Shared> {
         alloc: Global,
         name: Text,
         command: Option<Command>,
-        out: &mut Vec<u8>,
-    ) -> Result<bool, AllocError>
+    ) -> Result<Option<Response>, Stop>
         requires { IsSound self.old }
-        ensures answered { HasAnswered result out.old.items out.new.items self.new
-            (spec.session_answered by_objects (spec.closed by_objects self.old) name command) }
-        ensures sound { OnOk result (IsSound self.new) }
+        ensures responds { RespondsSo D.faults D.clock D.crash (named_means name command) result self.old self.new }
     {
-        self.close(alloc)?;
-        self.session_line(alloc, name, command, out)
+        match self.close(alloc) {
+            Ok(()) => match self.session_line(alloc, name, command) {
+                Ok(response) => Ok(Some(response)),
+                Err(_) => Err(Stop::NoMemory),
+            },
+            Err(stop) => Err(stop),
+        }
     }
 
-    /// Answers a line: appends what is to be written, and tells whether the line is refused. After
-    /// want of memory the world is of no more use.
-    pub fn answer(
-        &mut self,
-        alloc: Global,
-        line: &[u8],
-        out: &mut Vec<u8>,
-    ) -> Result<bool, AllocError>
-        requires { IsSound self.old }
-        ensures answered { HasAnswered result out.old.items out.new.items self.new (spec.answered by_objects self.old line.now) }
-        ensures sound { OnOk result (IsSound self.new) }
+    /// What a line of this form is answered.
+    fn respond(&mut self, alloc: Global, line: Line) -> Result<Option<Response>, Stop>
+        requires sound { IsSound self.old }
+        requires named { DefinesName line }
+        ensures responds { RespondsSo D.faults D.clock D.crash (form_means line) result self.old self.new }
     {
-        match read_line(alloc, line)? {
-            Line::Blank => Ok(false),
-            Line::Malformed => refuse(alloc, out, &no_session()),
-            Line::Definition(name) => self.define(alloc, name, out),
-            Line::Session { name, command } => self.under_name(alloc, name, command, out),
+        match line {
+            Line::Blank => Ok(None),
+            Line::Malformed => Ok(Some(Response::refused(no_session()))),
+            Line::Definition(name) => match self.define(name) {
+                Ok(response) => Ok(response),
+                Err(_) => Err(Stop::NoMemory),
+            },
+            Line::Session { name, command } => match self.under_name(alloc, name, command) {
+                Ok(response) => Ok(response),
+                Err(stop) => Err(stop),
+            },
+        }
+    }
+
+    /// What a line is answered. After an `Err` the world is of no more use, but its store is.
+    pub fn answer(&mut self, alloc: Global, line: &[u8]) -> Result<Option<Response>, Stop>
+        requires { IsSound self.old }
+        ensures responds { RespondsSo D.faults D.clock D.crash (line_means line.now) result self.old self.new }
+    {
+        match read_line(alloc, line) {
+            Ok(line) => self.respond(alloc, line),
+            Err(_) => Err(Stop::NoMemory),
         }
     }
 }

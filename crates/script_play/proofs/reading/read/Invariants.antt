@@ -1,14 +1,14 @@
 use Rattle.std.proofs.Common.{◌≤◌}
-use Rattle.script_play.specs.Sound.{IsSound}
+use Rattle.script_play.specs.StoreWorlds.{IsSound}
 use Rattle.script_play.specs.Players.{play_of}
-use Rattle.script_play.specs.Reading.{HasRead, devices}
+use Rattle.script_play.specs.Reading.{HasReadFrom, streams}
 use Rattle.script_play.proofs.reading.read.Given as goal
 
 -- all that was taken is played, and the room is what may still come
 abbrev pub invariant-loop-room : goal.invariant-loop-room
 invariant-loop-room g l = record {
   sound : IsSound l.player.world;
-  read : HasRead (devices (g.S.Source.left l.fn.script) (g.S.Source.left l.script) (g.K.Sink.written l.fn.out) (g.K.Sink.written l.out)) (play_of l.player) l.room;
+  read : HasReadFrom g.D.Disk.faults g.D.Disk.clock g.D.Disk.crash (play_of l.fn.player) (streams (g.S.Source.left l.fn.script) (g.S.Source.left l.script) (g.K.Sink.written l.fn.out) (g.K.Sink.written l.out)) (play_of l.player) l.room;
   source_faults : g.S.Source.faults l.fn.script ≤ g.S.Source.faults l.script;
   sink_faults : g.K.Sink.faults l.fn.out ≤ g.K.Sink.faults l.out;
 }

@@ -1,0 +1,190 @@
+-- What the calls of a store do, as parts of the answer to a line.
+use Rattle.std.specs.Prelude.{◌≡◌, ◌≢◌, ◌≤◌, ◌<◌, ◌+◌, ◌-◌, ◌^◌, ◌++◌, ◌⊎◌, ℕ, Bool, true, false, cond, List, [], ◌∷◌, min, Option, None, Some, refl}
+use Rattle.std.specs.List.{count_by}
+use Rattle.std.proofs.Common.{◌∙◌, ap, ap₂, sym, subst, subst₂, inl, inr, ⊎_elim, arith, append_assoc, append-nil}
+use Rattle.std.proofs.lemmas.Bool.{cases_lt}
+use Rattle.std.proofs.lemmas.List.Sums.{sum_by-append}
+use Rattle.std.proofs.lemmas.Option.{none-some}
+use Rattle.aw_lists.specs.Faults.{Rose}
+use Rattle.aw_cell.specs.declared.cell.Cell.{Cell}
+use Rattle.aw_codec.specs.declared.record.Decoded.{Decoded}
+use Rattle.aw_codec.specs.declared.record.Decoded.TheVariants.{Definitions, Commit}
+use Rattle.mv_core.specs.declared.entry.Entry.{Entry}
+use Rattle.mv_core.specs.declared.entry.Reply.{Reply}
+use Rattle.mv_core.specs.declared.entry.Reply.TheVariants.{Attached, Acquired, Committed, Owned, Newer, Stranger, Worn, Fault, NoMemory}
+use Rattle.mv_core.specs.declared.object.Object.{Object}
+use Rattle.mv_core.specs.SharedStep.{writes}
+use Rattle.aw_journal.specs.Passed.{Passed}
+use Rattle.aw_store.specs.Images.{HoldsRecords, LeftRecords}
+use Rattle.aw_store.specs.Replay.{names_of}
+use Rattle.aw_store.specs.Stores.{StoreState, record_of, Answers, Writes, Acts}
+use Rattle.ses_step.specs.declared.answer.Answer.{Answer}
+use Rattle.ses_step.specs.declared.line.Command.{Command}
+use Rattle.ses_step.specs.declared.session.Begun.TheVariants.{Said, Ask}
+use Rattle.ses_step.specs.declared.session.Session.{Session}
+use Rattle.ses_step.specs.Sessions.{begun, finished}
+use Rattle.script_world.specs.Worlds.{Turn, turn_from, replied}
+use Rattle.script_world.specs.Outcomes.{Outcome, Attempt, OnDisk, by_objects}
+use Rattle.script_world.specs.Acting.{done_where, outcomes_told, act_attempts, ends_at}
+use Rattle.script_world.specs.Faring.{StoreFares}
+use Rattle.script_world.specs.FaultLines.{has_faulted}
+use Rattle.script_world.specs.StoreTurns.{store_disk}
+use Rattle.script_world.proofs.Acting.{act_steps, act_fares}
+use Rattle.script_world.proofs.Learning.{outcomes_of-act, outcomes_of-append}
+use Rattle.script_play.specs.Turning.{FewFaults, Later, Moves, Asked, Replied, Turned, TurnTakes}
+
+-- ---- faults
+
+pub rose-one : (before now : ℕ) → Rose before now → (1 + before ≤ now) ⊎ (18446744073709551615 ≤ now)
+rose-one before now rose =
+    ⊎_elim (λ below. let it : (1 + before ≤ now) ⊎ (18446744073709551615 ≤ now) = inl (omega (arith, below, rose)) in it) (λ above. inr (omega (arith, above, rose))) (cases_lt (before + 1) 18446744073709551615)
+
+pub few-none : (before now : ℕ) → before ≤ now → FewFaults [] before now
+few-none before now later = inl (omega (arith, later))
+
+few-done : (writing : Bool) (before now : ℕ) → before ≤ now → FewFaults (done_where writing) before now
+few-done true before now later = inl (omega (arith, later))
+few-done false before now later = inl (omega (arith, later))
+
+few-act : (asked : Entry) (reply : Reply) (before now : ℕ) → before ≤ now → (reply ≡ Fault → Rose before now) → FewFaults (outcomes_told asked reply) before now
+few-act asked Fault before now later cause = rose-one before now (cause refl)
+few-act asked (Attached fresh) before now later cause = few-done (writes asked (Attached fresh)) before now later
+few-act asked Acquired before now later cause = few-done (writes asked Acquired) before now later
+few-act asked Committed before now later cause = few-done (writes asked Committed) before now later
+few-act asked (Owned object by) before now later cause = few-done (writes asked (Owned object by)) before now later
+few-act asked (Newer object number) before now later cause = few-done (writes asked (Newer object number)) before now later
+few-act asked (Stranger object) before now later cause = few-done (writes asked (Stranger object)) before now later
+few-act asked (Worn object) before now later cause = few-done (writes asked (Worn object)) before now later
+few-act asked NoMemory before now later cause = few-done (writes asked NoMemory) before now later
+
+pub few-append : (first second : List Outcome) (before middle now : ℕ) → middle ≤ now → FewFaults first before middle → FewFaults second middle now → FewFaults (first ++ second) before now
+few-append first second before middle now later one two =
+    ⊎_elim (λ few. ⊎_elim (λ more. let it : FewFaults (first ++ second) before now = inl (omega (arith, few, more, sum_by-append (λ (outcome : Outcome). cond (has_faulted outcome) 1 0) first second)) in it) (λ last. inr last) two) (λ last. inr (omega (arith, last, later))) one
+
+-- ---- names
+
+names-longer : (records : List Decoded) (r : Decoded) (names : List (List ℕ)) → names_of records ≡ Some names → names_of (records ++ r ∷ []) ≡ Some names
+names-longer [] r names is = absurd (none-some names is)
+names-longer (Definitions those ∷ records) r names is = is
+names-longer (Commit changes ∷ records) r names is = is
+
+module _ {D : Type 0} (old new : StoreState D) (names : List (List ℕ)) (is : names_of old.records ≡ Some names) where
+  answered-open : (asked : Entry) (reply : Reply) → Answers asked reply old new → names_of new.records ≡ Some names
+  answered-open asked reply it = by_test (writes asked reply) refl
+    where
+      by_test : (writing : Bool) → writes asked reply ≡ writing → names_of new.records ≡ Some names
+      by_test true writing = ap names_of (it.written writing).records ∙ names-longer old.records (record_of asked) names is
+      by_test false writing = ap (λ (store : StoreState D). names_of store.records) (it.unwritten writing) ∙ is
+
+  act-open : (asked : Entry) (reply : Reply) → Acts asked reply old new → names_of new.records ≡ Some names
+  act-open asked NoMemory acts = ap (λ (store : StoreState D). names_of store.records) acts ∙ is
+  act-open asked Fault acts = ap names_of acts.doubts.records ∙ is
+  act-open asked (Attached fresh) acts = answered-open asked (Attached fresh) acts
+  act-open asked Acquired acts = answered-open asked Acquired acts
+  act-open asked Committed acts = answered-open asked Committed acts
+  act-open asked (Owned object by) acts = answered-open asked (Owned object by) acts
+  act-open asked (Newer object number) acts = answered-open asked (Newer object number) acts
+  act-open asked (Stranger object) acts = answered-open asked (Stranger object) acts
+  act-open asked (Worn object) acts = answered-open asked (Worn object) acts
+
+module _ {D : Type 0} (faults clock : D → ℕ) (crash : D → ℕ → List ℕ → Type 0) where
+  -- ---- time
+
+  pub later-same : (disk : D) → Later faults clock crash disk disk
+  later-same disk = record { clock_later = omega arith; kept = λ moment image below. (λ left. left, λ left. left); faults_later = omega arith }
+
+  pub later-then : (first second third : D) → Later faults clock crash first second → Later faults clock crash second third → Later faults clock crash first third
+  later-then first second third one two = record {
+    clock_later = omega (arith, one.clock_later, two.clock_later);
+    kept = λ moment image below. (
+      λ left. (one.kept moment image below).0 ((two.kept moment image (omega (arith, below, one.clock_later))).0 left),
+      λ left. (two.kept moment image (omega (arith, below, one.clock_later))).1 ((one.kept moment image below).1 left),
+    );
+    faults_later = omega (arith, one.faults_later, two.faults_later);
+  }
+
+  pub later-passed : (old new : D) (during : List ℕ → Type 0) → Passed (clock old) (clock new) (crash old) (crash new) during → faults old ≤ faults new → Later faults clock crash old new
+  later-passed old new during passed later = record { clock_later = passed.later; kept = passed.kept; faults_later = later }
+
+  -- ---- moves
+
+  pub moves-nothing : (store : StoreState D) → Moves faults clock crash [] [] store store
+  moves-nothing store = record {
+    more_ends = [];
+    outcomes = refl;
+    fares = λ opened made ends start fares.
+        let P : List Attempt → List ℕ → Type 0 = λ made ends. StoreFares clock crash opened made ends start store in
+        subst₂ P (sym (append-nil made)) (sym (append-nil ends)) fares;
+    few = few-none (faults store.disk) (faults store.disk) (omega arith);
+    later = later-same store.disk;
+    keeps_open = λ names is. is;
+  }
+
+  pub moves-then : (told more_told : List Outcome) (made_first made_next : List Attempt) (first second third : StoreState D) → Moves faults clock crash told made_first first second → Moves faults clock crash more_told made_next second third → Moves faults clock crash (told ++ more_told) (made_first ++ made_next) first third
+  moves-then told more_told made_first made_next first second third one two = record {
+    more_ends = one.more_ends ++ two.more_ends;
+    outcomes = outcomes_of-append made_first made_next ∙ ap₂ (λ (a b : List Outcome). a ++ b) one.outcomes two.outcomes;
+    fares = λ opened made ends start fares.
+        let P : List Attempt → List ℕ → Type 0 = λ made ends. StoreFares clock crash opened made ends start third in
+        subst₂ P (append_assoc made made_first made_next) (append_assoc ends one.more_ends two.more_ends) (two.fares opened (made ++ made_first) (ends ++ one.more_ends) start (one.fares opened made ends start fares));
+    few = few-append told more_told (faults first.disk) (faults second.disk) (faults third.disk) two.later.faults_later one.few two.few;
+    later = later-then first.disk second.disk third.disk one.later two.later;
+    keeps_open = λ names is. two.keeps_open names (one.keeps_open names is);
+  }
+
+  -- ---- an entry
+
+  pub asked_so : (asked : Entry) (reply : Reply) (old new : StoreState D) → reply ≢ NoMemory → Acts asked reply old new → Passed (clock old.disk) (clock new.disk) (crash old.disk) (crash new.disk) (λ image. LeftRecords old.records old.doubt image ⊎ HoldsRecords image (old.records ++ record_of asked ∷ [])) → ((image : List ℕ) → crash new.disk (clock new.disk) image → LeftRecords new.records new.doubt image) → faults old.disk ≤ faults new.disk → (reply ≡ Fault → Rose (faults old.disk) (faults new.disk)) → Asked faults clock crash asked reply old new
+  asked_so asked reply old new wants acts moments images later cause = record {
+    told = outcomes_told asked reply;
+    more = act_attempts asked reply;
+    moves = record {
+      more_ends = ends_at (clock new.disk) (act_attempts asked reply);
+      outcomes = outcomes_of-act [] asked reply;
+      fares = λ opened made ends start fares. act_fares clock crash opened made ends start old new fares asked reply (record { moments = moments; images = images }) acts;
+      few = few-act asked reply (faults old.disk) (faults new.disk) later cause;
+      later = later-passed old.disk new.disk _ moments later;
+      keeps_open = λ names is. act-open old new names is asked reply acts;
+    };
+    step = λ made.
+        let all = outcomes_told asked reply in
+        ap (λ coming. (by_objects all).step (store_disk made coming old) asked) (sym (append-nil all)) ∙ act_steps all [] made asked old new reply wants acts;
+  }
+
+  -- ---- a command
+
+  -- a command that the session answers alone
+  pub said_turned : (definitions names : List (List ℕ)) (command : Command) (answer : Answer) (before after : Session) (store : StoreState D) → (Said answer, after) ≡ begun definitions before command → Turned faults clock crash definitions names command answer before after store store
+  said_turned definitions names command answer before after store said = record {
+    told = [];
+    more = [];
+    moves = moves-nothing store;
+    turns = λ made.
+        ap (turn_from (by_objects []) definitions names (store_disk made [] store)) (sym said)
+        ∙ ap (λ those. let it : Turn (OnDisk (List (Object Cell))) = record { answer = answer; session = after; shared = store_disk those [] store } in it) (sym (append-nil made));
+  }
+
+  asked-turn : (definitions names : List (List ℕ)) (command : Command) (asked : Entry) (reply : Reply) (before between : Session) (old new : StoreState D) → (Ask asked, between) ≡ begun definitions before command → (asks : Asked faults clock crash asked reply old new) → (made : List Attempt) →
+      turn_from (by_objects asks.told) definitions names (store_disk made asks.told old) (begun definitions before command) ≡ record { answer = (finished definitions names between asked reply).0; session = (finished definitions names between asked reply).1; shared = store_disk (made ++ asks.more) [] new }
+  asked-turn definitions names command asked reply before between old new begins asks made =
+      ap (turn_from (by_objects asks.told) definitions names (store_disk made asks.told old)) (sym begins)
+      ∙ ap (replied (by_objects asks.told) definitions names between asked) (asks.step made)
+
+  -- a command that asks the store
+  pub replied_turned : (definitions names : List (List ℕ)) (command : Command) (asked : Entry) (answer : Answer) (before between after : Session) (old new : StoreState D) → (Ask asked, between) ≡ begun definitions before command → Replied faults clock crash definitions names asked answer between after old new → Turned faults clock crash definitions names command answer before after old new
+  replied_turned definitions names command asked answer before between after old new begins replied = record {
+    told = replied.asks.told;
+    more = replied.asks.more;
+    moves = replied.asks.moves;
+    turns = λ made.
+        asked-turn definitions names command asked replied.reply before between old new begins replied.asks made
+        ∙ ap (λ those. let it : Turn (OnDisk (List (Object Cell))) = record { answer = those.0; session = those.1; shared = store_disk (made ++ replied.asks.more) [] new } in it) (sym replied.finishes);
+  }
+
+  pub asked_takes : (definitions names : List (List ℕ)) (command : Command) (asked : Entry) (reply : Reply) (before between : Session) (old new : StoreState D) → (Ask asked, between) ≡ begun definitions before command → Asked faults clock crash asked reply old new → TurnTakes faults clock crash definitions names command before old new
+  asked_takes definitions names command asked reply before between old new begins asks = record {
+    told = asks.told;
+    more = asks.more;
+    moves = asks.moves;
+    made_so = λ made. ap (λ (t : Turn (OnDisk (List (Object Cell)))). t.shared.attempts) (asked-turn definitions names command asked reply before between old new begins asks made);
+  }

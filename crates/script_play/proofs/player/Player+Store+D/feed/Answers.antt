@@ -1,0 +1,12 @@
+use Rattle.std.proofs.lemmas.Bool.{ne_eqb}
+use Rattle.script_play.specs.Players.{play_of}
+use Rattle.script_play.proofs.Fed.{Feeds-more, StopsIn-nothing}
+use Rattle.script_play.proofs.player.Player+Store+D.feed.Goals as goal
+
+pub returns-in-Ok-clause-feeds : goal.returns-in-Ok-clause-feeds
+returns-in-Ok-clause-feeds g c =
+    Feeds-more g.D.Disk.faults g.D.Disk.clock g.D.Disk.crash c.args.byte (play_of c.args.self.now) c.push.new.self.items (g.K.Sink.written c.args.out.now) (ne_eqb _ _ c.if-byte-eq10.false) c.in-Ok.ensures.items
+
+pub returns-in-Err-clause-feeds : goal.returns-in-Err-clause-feeds
+returns-in-Err-clause-feeds g c =
+    StopsIn-nothing g.D.Disk.faults g.D.Disk.clock g.D.Disk.crash _ (play_of c.args.self.now) c.push.new.self.items (g.K.Sink.written c.args.out.now)

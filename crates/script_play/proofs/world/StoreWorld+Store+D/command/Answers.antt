@@ -1,0 +1,18 @@
+use Rattle.std.proofs.Common.{◌∙◌, ap, List, ℕ}
+use Rattle.ses_step.specs.Sessions.{name_at}
+use Rattle.script_play.proofs.Lines.{command_none, command_some, command_wants}
+use Rattle.script_play.proofs.world.StoreWorld+Store+D.command.Goals as goal
+
+pub returns-in-Ok-clause-ok : goal.returns-in-Ok-clause-ok
+returns-in-Ok-clause-ok g c =
+    command_some g.D.Disk.faults g.D.Disk.clock g.D.Disk.crash c.args.who c.args.command c.in-Some.command c.in-Ok.answer _ c.args.self.now _ c.in-Some.is
+    (c.name_at-prefix.ensures ∙ ap (λ (names : List (List ℕ)). name_at names c.args.who) c.as_slice.ensures) c.requires.closed c.in-Ok.ensures.ok
+
+pub returns-in-Err-clause-err : goal.returns-in-Err-clause-err
+returns-in-Err-clause-err g c =
+    command_wants g.D.Disk.faults g.D.Disk.clock g.D.Disk.crash c.args.who c.args.command c.in-Some.command c.args.self.now _ c.in-Some.is c.requires.closed c.in-Err.ensures.err
+
+pub returns-in-None-clause-ok : goal.returns-in-None-clause-ok
+returns-in-None-clause-ok g c =
+    command_none g.D.Disk.faults g.D.Disk.clock g.D.Disk.crash c.args.who c.args.command c.refused.result _ c.args.self.now c.in-None.is
+    (c.name_at-prefix.ensures ∙ ap (λ (names : List (List ℕ)). name_at names c.args.who) c.as_slice.ensures) c.refused.ensures

@@ -1,0 +1,19 @@
+use Rattle.script_play.proofs.Lines.{closes_open, closes_paired, stops_closing, named_answers, named_wants}
+use Rattle.script_play.specs.Turning.{named_means}
+use Rattle.script_play.proofs.world.StoreWorld+Store+D.under_name.Goals as goal
+
+pub session_line-requires-clause-paired : goal.session_line-requires-clause-paired
+session_line-requires-clause-paired g c = closes_paired g.D.Disk.faults g.D.Disk.clock g.D.Disk.crash c.args.self.now c.close.new.self c.in-Ok.ensures.closes c.requires.paired
+
+pub session_line-requires-clause-closed : goal.session_line-requires-clause-closed
+session_line-requires-clause-closed g c = closes_open g.D.Disk.faults g.D.Disk.clock g.D.Disk.crash c.args.self.now c.close.new.self c.in-Ok.ensures.closes
+
+pub returns-in-Ok-session_line : goal.returns-in-Ok-session_line
+returns-in-Ok-session_line g c = record {
+  responds = named_answers g.D.Disk.faults g.D.Disk.clock g.D.Disk.crash c.args.name c.args.command _ c.args.self.now c.close.new.self _ c.in-Ok.ensures.closes c.in-Ok-session_line.ensures.ok;
+}
+
+pub returns-in-Err-session_line : goal.returns-in-Err-session_line
+returns-in-Err-session_line g c = record {
+  responds = named_wants g.D.Disk.faults g.D.Disk.clock g.D.Disk.crash c.args.name c.args.command c.args.self.now c.close.new.self _ c.requires c.in-Ok.ensures.closes c.in-Err-session_line.ensures.err;
+}

@@ -1,0 +1,72 @@
+-- The world that the program keeps: a store stands in it from the beginning, and is the shared state once it has definitions.
+use Rattle.std.specs.Prelude.{◌≡◌, ◌&&◌, ◌++◌, ℕ, Bool, true, false, List, [], ◌∷◌, length, nat_lt, Option, None, Some, is_none, unwrap_or, if◌then◌else◌}
+use Rattle.std.specs.Option.{option_map}
+use Rattle.aw_codec.specs.Records.{AreDefinable}
+use Rattle.aw_cell.specs.declared.cell.Cell.{Cell}
+use Rattle.mv_core.specs.declared.object.Object.{Object}
+use Rattle.aw_store.specs.Replay.{names_of}
+use Rattle.aw_store.specs.Stores.{StoreState}
+use Rattle.ses_step.specs.declared.answer.Answer.TheVariants.{Refused}
+use Rattle.ses_step.specs.Answers.{no_form}
+use Rattle.ses_step.specs.Words.{place_of}
+use Rattle.ses_step.specs.Sessions.{new_session}
+use Rattle.script_world.specs.Worlds.{World, with_shared, Answered, silent, answered_so, no_session}
+use Rattle.script_world.specs.Outcomes.{Outcome, Attempt, OnDisk}
+use Rattle.script_world.specs.StoreTurns.{store_disk}
+use Rattle.script_play.specs.declared.world.StoreWorld.{StoreWorld}
+use Rattle.script_play.specs.declared.response.Response.{Response}
+
+-- the store, once it has definitions
+abbrev pub open_store : {D : Type 0} → StoreState D → Option (StoreState D)
+open_store {D} store = option_map (λ (names : List (List ℕ)). store) (names_of store.records)
+
+abbrev pub world_of : {D : Type 0} → StoreWorld (StoreState D) → World (StoreState D)
+world_of w = record { definitions = w.definitions; shared = open_store w.store; names = w.names; sessions = w.sessions }
+
+-- the same over the machine on a disk, in a run that made these attempts and has these outcomes to come
+abbrev pub on_machine : {D : Type 0} → List Attempt → List Outcome → StoreWorld (StoreState D) → World (OnDisk (List (Object Cell)))
+on_machine made coming w = with_shared (store_disk made coming) (world_of w)
+
+-- nothing was attempted before there were definitions
+abbrev pub IsMade : {D : Type 0} → List Attempt → StoreState D → Type 0
+IsMade made store = names_of store.records ≡ None → made ≡ []
+
+-- while nothing is open the definitions can be written, and no session has appeared
+pub record IsSound {D : Type 0} (w : StoreWorld (StoreState D)) : Type 0 where
+  pub paired : length w.sessions ≡ length w.names
+  pub defined : names_of w.store.records ≡ None → AreDefinable w.definitions
+  pub unnamed : names_of w.store.records ≡ None → w.names ≡ []
+  pub no_sessions : names_of w.store.records ≡ None → w.sessions ≡ []
+
+-- ---- responses
+
+-- what a line is answered, which may be nothing
+abbrev pub answered_by : {S : Type 0} → Option Response → World S → Answered S
+answered_by None w = silent w
+answered_by (Some response) w = answered_so response.prefix response.answer w
+
+abbrev pub refused_response : List ℕ → Response
+refused_response prefix = record { prefix = prefix; answer = Refused no_form }
+
+-- ---- a definition
+
+-- a name can be defined once, before the definitions are closed, and 4,096 times in all
+abbrev pub can_join : {D : Type 0} → StoreWorld (StoreState D) → List ℕ → Bool
+can_join w name = is_none (names_of w.store.records) && nat_lt (length w.definitions) 4096 && is_none (place_of w.definitions name)
+
+abbrev pub JoinsSo : {D : Type 0} → List ℕ → Option Response → StoreWorld (StoreState D) → StoreWorld (StoreState D) → Type 0
+JoinsSo name None old new = (can_join old name ≡ true) × (new ≡ record old { definitions = old.definitions ++ name ∷ [] })
+JoinsSo name (Some response) old new = (can_join old name ≡ false) × (response ≡ refused_response no_session) × (new ≡ old)
+
+-- ---- a session's first line
+
+-- the place of a session by first appearance of its name, or the next one
+abbrev pub own_place : {D : Type 0} → StoreWorld (StoreState D) → List ℕ → ℕ
+own_place w name = unwrap_or (place_of w.names name) (length w.names)
+
+-- a name that hasn't appeared yet makes a session
+abbrev pub placed : {D : Type 0} → StoreWorld (StoreState D) → List ℕ → StoreWorld (StoreState D)
+placed w name = record w {
+  names = if nat_lt (own_place w name) (length w.names) then w.names else w.names ++ name ∷ [];
+  sessions = if nat_lt (own_place w name) (length w.names) then w.sessions else w.sessions ++ new_session (own_place w name) ∷ [];
+}

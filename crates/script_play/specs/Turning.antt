@@ -1,0 +1,196 @@
+-- What the parts of the answer to a line do to a store and to a run, whatever the run did before.
+use Rattle.std.specs.Prelude.{◌≡◌, ◌≢◌, ◌≤◌, ◌<◌, ◌+◌, ◌++◌, ◌⊎◌, ◌↔◌, ℕ, true, List, [], ◌∷◌, length, Option, None, Some, Result, Ok, Err, slice_index_or, slice_set}
+use Rattle.std.specs.List.{count_by}
+use Rattle.aw_lists.specs.Faults.{Rose}
+use Rattle.aw_cell.specs.declared.cell.Cell.{Cell}
+use Rattle.aw_cell.specs.Names.{is_name}
+use Rattle.aw_codec.specs.declared.record.Decoded.{Decoded}
+use Rattle.aw_codec.specs.declared.record.Decoded.TheVariants.{Definitions}
+use Rattle.mv_core.specs.declared.entry.Entry.{Entry}
+use Rattle.mv_core.specs.declared.entry.Reply.{Reply}
+use Rattle.mv_core.specs.declared.object.Object.{Object}
+use Rattle.mv_core.specs.Integers.{integers}
+use Rattle.mv_core.specs.Workspace.{standing, opened}
+use Rattle.aw_store.specs.Replay.{names_of}
+use Rattle.aw_store.specs.Stores.{StoreState}
+use Rattle.ses_step.specs.declared.answer.Answer.{Answer}
+use Rattle.ses_step.specs.declared.line.Command.{Command}
+use Rattle.ses_step.specs.declared.line.Line.{Line}
+use Rattle.ses_step.specs.declared.line.Line.TheVariants as line
+use Rattle.ses_step.specs.declared.session.Session.{Session}
+use Rattle.ses_step.specs.Sessions.{new_session, finished}
+use Rattle.script_world.specs.Worlds.{World, Answered, turn, closed, commanded, session_answered, line_answered, answered}
+use Rattle.script_world.specs.Outcomes.{Outcome, done, faulted, Attempt, OnDisk, by_objects}
+use Rattle.script_world.specs.Faring.{StoreFares}
+use Rattle.script_world.specs.FaultLines.{has_faulted}
+use Rattle.script_world.specs.Learning.{outcomes_of}
+use Rattle.script_world.specs.StoreTurns.{store_disk}
+use Rattle.script_world.specs.Transcript.{attempts_of}
+use Rattle.script_play.specs.declared.world.StoreWorld.{StoreWorld}
+use Rattle.script_play.specs.declared.stop.Stop.{Stop}
+use Rattle.script_play.specs.declared.stop.Stop.TheVariants.{SinkFault, DiskFault, NoMemory}
+use Rattle.script_play.specs.declared.response.Response.{Response}
+use Rattle.script_play.specs.StoreWorlds.{on_machine, IsMade, IsSound, answered_by}
+
+-- a count of faults rose by as many as these are faults, or stands at its last value
+abbrev pub FewFaults : List Outcome → ℕ → ℕ → Type 0
+FewFaults told before now = (count_by has_faulted told + before ≤ now) ⊎ (18446744073709551615 ≤ now)
+
+-- an attempt to write these definitions
+abbrev pub defining : List (List ℕ) → Outcome → Attempt
+defining names outcome = record { attempted = Definitions names; outcome = outcome }
+
+-- the store has definitions
+abbrev pub IsOpen : {D : Type 0} → StoreState D → Type 0
+IsOpen store = (names : List (List ℕ)) × (names_of store.records ≡ Some names)
+
+-- what a line defines is a name
+abbrev pub DefinesName : Line → Type 0
+DefinesName (line.Definition name) = is_name name ≡ true
+DefinesName (line.Session name command) = Unit {0}
+DefinesName line.Blank = Unit {0}
+DefinesName line.Malformed = Unit {0}
+
+-- ---- what a line means on the machine, by the outcomes of its commits
+
+abbrev pub command_means : ℕ → Option Command → List Outcome → World (OnDisk (List (Object Cell))) → Answered (OnDisk (List (Object Cell)))
+command_means who command told w = commanded (by_objects told) w who command
+
+-- under a session's name, once the definitions are closed
+abbrev pub session_means : List ℕ → Option Command → List Outcome → World (OnDisk (List (Object Cell))) → Answered (OnDisk (List (Object Cell)))
+session_means name command told w = session_answered (by_objects told) w name command
+
+-- the same, where they may still have to be closed
+abbrev pub named_means : List ℕ → Option Command → List Outcome → World (OnDisk (List (Object Cell))) → Answered (OnDisk (List (Object Cell)))
+named_means name command told w = session_answered (by_objects told) (closed (by_objects told) w) name command
+
+abbrev pub form_means : Line → List Outcome → World (OnDisk (List (Object Cell))) → Answered (OnDisk (List (Object Cell)))
+form_means form told w = line_answered (by_objects told) w form
+
+abbrev pub line_means : List ℕ → List Outcome → World (OnDisk (List (Object Cell))) → Answered (OnDisk (List (Object Cell)))
+line_means line told w = answered (by_objects told) w line
+
+module _ {D : Type 0} (faults clock : D → ℕ) (crash : D → ℕ → List ℕ → Type 0) where
+  -- neither the count of faults nor the clock falls, and moments that are past keep their images
+  pub record Later (old new : D) : Type 0 where
+    pub clock_later : clock old ≤ clock new
+    pub kept : (moment : ℕ) (image : List ℕ) → moment < clock old → crash new moment image ↔ crash old moment image
+    pub faults_later : faults old ≤ faults new
+
+  -- a call told these outcomes of commits, and made these attempts, which ended at some moments
+  pub record Moves (told : List Outcome) (more : List Attempt) (old new : StoreState D) : Type 0 where
+    pub more_ends : List ℕ
+    pub outcomes : outcomes_of more ≡ told
+    pub fares : (opened_with : List Decoded) (made : List Attempt) (ends : List ℕ) (start : ℕ) → StoreFares clock crash opened_with made ends start old → StoreFares clock crash opened_with (made ++ more) (ends ++ more_ends) start new
+    pub few : FewFaults told (faults old.disk) (faults new.disk)
+    pub later : Later old.disk new.disk
+    pub keeps_open : (names : List (List ℕ)) → names_of old.records ≡ Some names → names_of new.records ≡ Some names
+
+  -- ---- a command of a session
+
+  -- an entry, answered by a step of the machine
+  pub record Asked (asked : Entry) (reply : Reply) (old new : StoreState D) : Type 0 where
+    pub told : List Outcome
+    pub more : List Attempt
+    pub moves : Moves told more old new
+    pub step : (made : List Attempt) → (by_objects told).step (store_disk made told old) asked ≡ (reply, store_disk (made ++ more) [] new)
+
+  -- an entry and the answer by its reply
+  pub record Replied (definitions names : List (List ℕ)) (asked : Entry) (answer : Answer) (before after : Session) (old new : StoreState D) : Type 0 where
+    pub reply : Reply
+    pub asks : Asked asked reply old new
+    pub finishes : (answer, after) ≡ finished definitions names before asked reply
+
+  -- for want of memory an entry has no answer: it did nothing, or was replied to
+  abbrev pub ReplyWants : Entry → StoreState D → StoreState D → Type 0
+  ReplyWants asked old new = (new ≡ old) ⊎ ((reply : Reply) × Asked asked reply old new)
+
+  -- a command, answered by a turn of the machine
+  pub record Turned (definitions names : List (List ℕ)) (command : Command) (answer : Answer) (before after : Session) (old new : StoreState D) : Type 0 where
+    pub told : List Outcome
+    pub more : List Attempt
+    pub moves : Moves told more old new
+    pub turns : (made : List Attempt) → turn (by_objects told) definitions names (store_disk made told old) before command ≡ record { answer = answer; session = after; shared = store_disk (made ++ more) [] new }
+
+  -- a command that was taken up, and made its attempts
+  pub record TurnTakes (definitions names : List (List ℕ)) (command : Command) (before : Session) (old new : StoreState D) : Type 0 where
+    pub told : List Outcome
+    pub more : List Attempt
+    pub moves : Moves told more old new
+    pub made_so : (made : List Attempt) → (turn (by_objects told) definitions names (store_disk made told old) before command).shared.attempts ≡ made ++ more
+
+  abbrev pub TurnWants : List (List ℕ) → List (List ℕ) → Command → Session → StoreState D → StoreState D → Type 0
+  TurnWants definitions names command before old new = (new ≡ old) ⊎ TurnTakes definitions names command before old new
+
+  -- a command of the session at a place
+  pub record TurnsAt (command : Command) (answer : Answer) (who : ℕ) (old new : StoreWorld (StoreState D)) : Type 0 where
+    pub after : Session
+    pub turned : Turned old.definitions old.names command answer (slice_index_or old.sessions who (new_session who)) after old.store new.store
+    pub rest : new ≡ record old { store = new.store; sessions = slice_set old.sessions who after }
+
+  -- ---- a line
+
+  -- all of a line's meaning, with its answer
+  pub record Answers (means : List Outcome → World (OnDisk (List (Object Cell))) → Answered (OnDisk (List (Object Cell)))) (response : Option Response) (old new : StoreWorld (StoreState D)) : Type 0 where
+    pub told : List Outcome
+    pub more : List Attempt
+    pub moves : Moves told more old.store new.store
+    pub means_so : (made : List Attempt) → IsMade made old.store → means told (on_machine made told old) ≡ answered_by response (on_machine (made ++ more) [] new)
+    pub all_made : (made : List Attempt) → IsMade made old.store → IsMade (made ++ more) new.store
+    pub keeps_sound : IsSound old → IsSound new
+
+  -- a line that was taken up, and made its attempts
+  pub record Takes (means : List Outcome → World (OnDisk (List (Object Cell))) → Answered (OnDisk (List (Object Cell)))) (old new : StoreWorld (StoreState D)) : Type 0 where
+    pub told : List Outcome
+    pub more : List Attempt
+    pub moves : Moves told more old.store new.store
+    pub made_so : (made : List Attempt) → IsMade made old.store → attempts_of (means told (on_machine made told old)).world.shared ≡ made ++ more
+
+  -- for want of memory a line has no answer: nothing was attempted, or it made its attempts
+  abbrev pub Wants : (List Outcome → World (OnDisk (List (Object Cell))) → Answered (OnDisk (List (Object Cell)))) → StoreWorld (StoreState D) → StoreWorld (StoreState D) → Type 0
+  Wants means old new = (new.store ≡ old.store) ⊎ Takes means old new
+
+  -- the definitions were written
+  pub record Opens (old new : StoreWorld (StoreState D)) : Type 0 where
+    pub unopened : names_of old.store.records ≡ None
+    pub moves : Moves [] (defining old.definitions done ∷ []) old.store new.store
+    pub names : names_of new.store.records ≡ Some old.definitions
+    pub objects : new.store.objects ≡ standing integers (opened (length old.definitions))
+    pub rest : new ≡ record old { store = new.store }
+
+  -- the disk failed while the definitions were written
+  pub record FailsToOpen (old new : StoreWorld (StoreState D)) : Type 0 where
+    pub unopened : names_of old.store.records ≡ None
+    pub moves : Moves [] (defining old.definitions faulted ∷ []) old.store new.store
+    pub rose : Rose (faults old.store.disk) (faults new.store.disk)
+
+  abbrev pub OpensSo : Result (Unit {0}) Stop → StoreWorld (StoreState D) → StoreWorld (StoreState D) → Type 0
+  OpensSo (Ok nothing) old new = Opens old new
+  OpensSo (Err DiskFault) old new = FailsToOpen old new
+  OpensSo (Err NoMemory) old new = new ≡ old
+  OpensSo (Err SinkFault) old new = ⊥
+
+  -- the definitions are closed, by now or before
+  abbrev pub ClosesSo : Result (Unit {0}) Stop → StoreWorld (StoreState D) → StoreWorld (StoreState D) → Type 0
+  ClosesSo (Ok nothing) old new = ((new ≡ old) × IsOpen old.store) ⊎ Opens old new
+  ClosesSo (Err DiskFault) old new = FailsToOpen old new
+  ClosesSo (Err NoMemory) old new = new ≡ old
+  ClosesSo (Err SinkFault) old new = ⊥
+
+  -- the script has ended: what was only defined is written
+  abbrev pub FinishesWorldSo : Result (Unit {0}) Stop → StoreWorld (StoreState D) → StoreWorld (StoreState D) → Type 0
+  FinishesWorldSo (Ok nothing) old new = ((new ≡ old) × (IsOpen old.store ⊎ (old.definitions ≡ []))) ⊎ (Opens old new × (old.definitions ≢ []))
+  FinishesWorldSo (Err DiskFault) old new = FailsToOpen old new
+  FinishesWorldSo (Err NoMemory) old new = new ≡ old
+  FinishesWorldSo (Err SinkFault) old new = ⊥
+
+  -- why a line has no answer
+  abbrev pub StopsSo : (List Outcome → World (OnDisk (List (Object Cell))) → Answered (OnDisk (List (Object Cell)))) → Stop → StoreWorld (StoreState D) → StoreWorld (StoreState D) → Type 0
+  StopsSo means DiskFault old new = FailsToOpen old new
+  StopsSo means NoMemory old new = Wants means old new
+  StopsSo means SinkFault old new = ⊥
+
+  -- what a line is answered, or why it has no answer
+  abbrev pub RespondsSo : (List Outcome → World (OnDisk (List (Object Cell))) → Answered (OnDisk (List (Object Cell)))) → Result (Option Response) Stop → StoreWorld (StoreState D) → StoreWorld (StoreState D) → Type 0
+  RespondsSo means (Ok response) old new = Answers means response old new
+  RespondsSo means (Err stop) old new = StopsSo means stop old new

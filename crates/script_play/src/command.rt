@@ -1,0 +1,179 @@
+ghost use Rattle.std.specs.Prelude.{◌≡◌, ◌≢◌, ◌≤◌};
+ghost use Rattle.aw_lists.specs.Faults.{Rose};
+ghost use Rattle.script_play.specs.Statuses as spec;
+ghost use Rattle.script_play.specs.Reading.{streams};
+ghost use Rattle.script_play.specs.Ends.{Plays, Makes, Dumps, Refuses, contents};
+
+use crate::dump::dump;
+use crate::lent::Lent;
+use crate::making::make;
+use crate::top::{Ran, play};
+use aw_cell::Text;
+use aw_disk::Disk;
+use aw_io::{Sink, Source, put_all};
+use std::alloc::Global;
+
+const USAGE: &[u8] = b"usage: play, new, dump, make N\n";
+
+/// What the words of the command line ask for.
+#[derive(Clone, Copy)]
+enum Command {
+    Play,
+    New,
+    Dump,
+    Other,
+}
+
+fn is_word(wanted: &[u8], words: &[Text]) -> bool
+    ensures { result ≡ spec.is_word wanted.now words.now }
+{
+    match words {
+        [word] => word.bytes() == wanted,
+        _ => false,
+    }
+}
+
+fn command_of(words: &[Text]) -> Command
+    ensures { result ≡ spec.command_of words.now }
+{
+    if is_word(b"play", words) {
+        return Command::Play;
+    }
+    if is_word(b"new", words) {
+        return Command::New;
+    }
+    if is_word(b"dump", words) {
+        Command::Dump
+    } else {
+        Command::Other
+    }
+}
+
+fn usage<K: Sink>(out: &mut K) -> u8
+    ensures refuses { Refuses (K.written out.old) (K.written out.new) result }
+    ensures later { K.faults out.old ≤ K.faults out.new }
+    ensures cause { result ≡ 4 → Rose (K.faults out.old) (K.faults out.new) }
+{
+    match put_all(out, USAGE) {
+        Ok(()) => 2,
+        Err(_) => 4,
+    }
+}
+
+/// Plays a script on a disk that is lent, and hands it back.
+fn play_kept<'a, D: Disk, S: Source, K: Sink>(
+    alloc: Global,
+    script: &mut S,
+    out: &mut K,
+    disk: &'a mut D,
+) -> (u8, &'a mut D)
+    ensures same { result.1.ghost_name ≡ disk.entry.ghost_name }
+    ensures plays { Plays (streams (S.left script.old) (S.left script.new) (K.written out.old) (K.written out.new)) (contents (D.content disk.old) (D.content result.1.now) (D.faults disk.old) (D.faults result.1.now)) (D.clock disk.old) (D.clock result.1.now) (D.crash disk.old) (D.crash result.1.now) result.0 }
+    ensures source_later { S.faults script.old ≤ S.faults script.new }
+    ensures sink_later { K.faults out.old ≤ K.faults out.new }
+    ensures disk_later { D.faults disk.old ≤ D.faults result.1.now }
+    ensures source_cause { result.0 ≡ 3 → Rose (S.faults script.old) (S.faults script.new) }
+    ensures sink_cause { result.0 ≡ 4 → Rose (K.faults out.old) (K.faults out.new) }
+    ensures disk_cause { result.0 ≡ 5 → Rose (D.faults disk.old) (D.faults result.1.now) }
+{
+    let Ran { status, disk: lent } = play(alloc, script, out, Lent { disk });
+    let Lent { disk } = lent;
+    (status, disk)
+}
+
+fn play_lent<D: Disk, S: Source, K: Sink>(
+    alloc: Global,
+    script: &mut S,
+    out: &mut K,
+    disk: &mut D,
+) -> u8
+    ensures plays { Plays (streams (S.left script.old) (S.left script.new) (K.written out.old) (K.written out.new)) (contents (D.content disk.old) (D.content disk.new) (D.faults disk.old) (D.faults disk.new)) (D.clock disk.old) (D.clock disk.new) (D.crash disk.old) (D.crash disk.new) result }
+    ensures source_later { S.faults script.old ≤ S.faults script.new }
+    ensures sink_later { K.faults out.old ≤ K.faults out.new }
+    ensures disk_later { D.faults disk.old ≤ D.faults disk.new }
+    ensures source_cause { result ≡ 3 → Rose (S.faults script.old) (S.faults script.new) }
+    ensures sink_cause { result ≡ 4 → Rose (K.faults out.old) (K.faults out.new) }
+    ensures disk_cause { result ≡ 5 → Rose (D.faults disk.old) (D.faults disk.new) }
+{
+    let (status, _same) = play_kept(alloc, script, out, disk);
+    status
+}
+
+/// Dumps a disk that is lent, and hands it back.
+fn dump_kept<'a, D: Disk, K: Sink>(alloc: Global, out: &mut K, disk: &'a mut D) -> (u8, &'a mut D)
+    ensures same { result.1.ghost_name ≡ disk.entry.ghost_name }
+    ensures dumps { Dumps (contents (D.content disk.old) (D.content result.1.now) (D.faults disk.old) (D.faults result.1.now)) (K.written out.old) (K.written out.new) (D.clock disk.old) (D.clock result.1.now) (D.crash disk.old) (D.crash result.1.now) result.0 }
+    ensures sink_later { K.faults out.old ≤ K.faults out.new }
+    ensures disk_later { D.faults disk.old ≤ D.faults result.1.now }
+    ensures sink_cause { result.0 ≡ 4 → Rose (K.faults out.old) (K.faults out.new) }
+    ensures disk_cause { result.0 ≡ 5 → Rose (D.faults disk.old) (D.faults result.1.now) }
+{
+    let Ran { status, disk: lent } = dump(alloc, out, Lent { disk });
+    let Lent { disk } = lent;
+    (status, disk)
+}
+
+fn dump_lent<D: Disk, K: Sink>(alloc: Global, out: &mut K, disk: &mut D) -> u8
+    ensures dumps { Dumps (contents (D.content disk.old) (D.content disk.new) (D.faults disk.old) (D.faults disk.new)) (K.written out.old) (K.written out.new) (D.clock disk.old) (D.clock disk.new) (D.crash disk.old) (D.crash disk.new) result }
+    ensures sink_later { K.faults out.old ≤ K.faults out.new }
+    ensures disk_later { D.faults disk.old ≤ D.faults disk.new }
+    ensures sink_cause { result ≡ 4 → Rose (K.faults out.old) (K.faults out.new) }
+    ensures disk_cause { result ≡ 5 → Rose (D.faults disk.old) (D.faults disk.new) }
+{
+    let (status, _same) = dump_kept(alloc, out, disk);
+    status
+}
+
+/// Runs the command that the words ask for; they are those of the command line behind the path of
+/// the disk. See docs/LANGUAGE.md, 'Scripts' and 'Statuses', and docs/FORMATS.md, 'The journal'.
+///
+/// - `play` opens the disk, plays the script that the source gives, and writes the transcript to the
+///   sink: each line is answered, and the answer is written, before the next is taken up.
+/// - `new` formats a disk that isn't formatted.
+/// - `dump` writes what the disk stands for.
+///
+/// The answer is the status:
+///
+/// - 0: the script was read to its end, and no line was refused; or the work was done.
+/// - 1: the script was read to its end, and some line was refused.
+/// - 2: the words are no command. The usage line is written, and the script and the disk are left
+///   alone.
+/// - 3: the source failed. The lines that ended in the bytes taken are answered.
+/// - 4: the sink failed. A front of what was due is written.
+/// - 5: the disk failed while it was opened or formatted, or while the definitions were written. The
+///   lines so far are answered.
+/// - 6: memory ran out. A front of what was due is written.
+/// - 7: the disk has fewer than 9 bytes or another head.
+/// - 8: a frame of the disk is cut short, or is no record, or can't be replayed.
+/// - 9: `new` found a disk that is formatted.
+/// - 10: the script has more than 67,108,864 bytes. The lines that ended in as many are answered.
+pub fn run<S: Source, K: Sink, D: Disk>(
+    alloc: Global,
+    words: &[Text],
+    script: &mut S,
+    out: &mut K,
+    disk: &mut D,
+) -> u8
+    ensures plays { spec.command_of words.now ≡ Command.Play
+        → Plays (streams (S.left script.old) (S.left script.new) (K.written out.old) (K.written out.new)) (contents (D.content disk.old) (D.content disk.new) (D.faults disk.old) (D.faults disk.new)) (D.clock disk.old) (D.clock disk.new) (D.crash disk.old) (D.crash disk.new) result }
+    ensures makes { spec.command_of words.now ≡ Command.New
+        → Makes D.content D.faults D.clock D.crash disk.old disk.new (K.written out.old) (K.written out.new) result }
+    ensures dumps { spec.command_of words.now ≡ Command.Dump
+        → Dumps (contents (D.content disk.old) (D.content disk.new) (D.faults disk.old) (D.faults disk.new)) (K.written out.old) (K.written out.new) (D.clock disk.old) (D.clock disk.new) (D.crash disk.old) (D.crash disk.new) result }
+    ensures refuses { spec.command_of words.now ≡ Command.Other → Refuses (K.written out.old) (K.written out.new) result }
+    ensures untouched { spec.command_of words.now ≢ Command.Play → script.new ≡ script.old }
+    ensures unopened { spec.command_of words.now ≡ Command.Other → disk.new ≡ disk.old }
+    ensures source_later { S.faults script.old ≤ S.faults script.new }
+    ensures sink_later { K.faults out.old ≤ K.faults out.new }
+    ensures disk_later { D.faults disk.old ≤ D.faults disk.new }
+    ensures source_cause { result ≡ 3 → Rose (S.faults script.old) (S.faults script.new) }
+    ensures sink_cause { result ≡ 4 → Rose (K.faults out.old) (K.faults out.new) }
+    ensures disk_cause { result ≡ 5 → Rose (D.faults disk.old) (D.faults disk.new) }
+{
+    match command_of(words) {
+        Command::Play => play_lent(alloc, script, out, disk),
+        Command::New => make(out, disk),
+        Command::Dump => dump_lent(alloc, out, disk),
+        Command::Other => usage(out),
+    }
+}

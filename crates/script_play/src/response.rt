@@ -1,0 +1,25 @@
+ghost use Rattle.std.specs.Prelude.{◌≡◌};
+ghost use Rattle.script_play.specs.StoreWorlds.{refused_response};
+
+use aw_cell::Text;
+use ses_step::{Answer, Refusal};
+
+/// What a line is answered.
+#[derive(Clone, Copy)]
+pub struct Response {
+    /// The name of the session, or `*` where the line is of none.
+    pub prefix: Text,
+    pub answer: Answer,
+}
+
+impl Response {
+    /// Refusal 1, under a prefix.
+    pub fn refused(prefix: Text) -> Response
+        ensures { result ≡ refused_response prefix }
+    {
+        Response {
+            prefix,
+            answer: Answer::Refused(Refusal::no_form()),
+        }
+    }
+}
