@@ -1,9 +1,9 @@
 -- A run that has answered lines, and answers one more.
-use Rattle.std.specs.Prelude.{◌≡◌, ◌≤◌, ◌||◌, ◌++◌, ◌⊎◌, ℕ, Bool, List, [], ◌∷◌, Option, None, Some, Err, refl}
+use Rattle.std.specs.Prelude.{◌≡◌, ◌≤◌, ◌||◌, ◌++◌, ℕ, Bool, List, [], ◌∷◌, Option, None, Some, Err, refl}
 use Rattle.std.specs.Option.{option_map}
-use Rattle.std.proofs.Common.{◌∙◌, ap, ap₂, sym, subst, subst₂, ⊎_elim, inl, inr, arith, append_assoc, append-nil}
+use Rattle.std.proofs.Common.{◌∙◌, ap, ap₂, sym, subst, subst₂, ⊎_elim, arith, append_assoc, append-nil}
 use Rattle.aw_lists.specs.Faults.{Rose}
-use Rattle.aw_io.specs.Known.{Grows, GrowsByFront, Grows-append, GrowsByFront-append, GrowsByFront-all, GrowsByFront-more}
+use Rattle.aw_io.specs.Known.{Grows, GrowsByFront-append, GrowsByFront-all, GrowsByFront-more}
 use Rattle.aw_cell.specs.declared.cell.Cell.{Cell}
 use Rattle.aw_codec.specs.declared.record.Decoded.{Decoded}
 use Rattle.mv_core.specs.declared.object.Object.{Object}
@@ -25,8 +25,8 @@ use Rattle.script_play.specs.declared.stop.Stop.{Stop}
 use Rattle.script_play.specs.declared.stop.Stop.TheVariants.{SinkFault, DiskFault, NoMemory}
 use Rattle.script_play.specs.declared.response.Response.{Response}
 use Rattle.script_play.specs.StoreWorlds.{world_of, open_store, on_machine, IsMade, answered_by}
-use Rattle.script_play.specs.Turning.{FewFaults, defining, Later, Moves, line_means, Answers, Takes, Wants, FailsToOpen}
-use Rattle.script_play.specs.Playing.{said_of, refuses_of, Responded, CutIn, RespondedSo, Stands, HasDone, HasTaken, WasCut, HasFailed, HasStopped}
+use Rattle.script_play.specs.Turning.{defining, Moves, line_means, Answers, Takes, Wants, FailsToOpen}
+use Rattle.script_play.specs.Playing.{said_of, refuses_of, CutIn, RespondedSo, Stands, HasDone, HasTaken, WasCut, HasFailed, HasStopped}
 use Rattle.script_play.proofs.Turning.{few-append, later-then}
 
 -- ---- plain facts

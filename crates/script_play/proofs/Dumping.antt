@@ -1,7 +1,7 @@
 -- The dump of a store, object by object, and of a disk.
-use Rattle.std.specs.Prelude.{◌≡◌, ◌≤◌, ◌<◌, ◌+◌, ◌&&◌, ◌++◌, ◌⊎◌, ℕ, zero, suc, Bool, true, List, [], ◌∷◌, length, drop, nat_le, Option, None, Some, IfSome, IsTrue, unwrap_or, slice_get, refl}
-use Rattle.std.proofs.Common.{◌∙◌, ap, ap₂, sym, subst, inl, inr, ⊎_elim, arith, append_assoc, get_or, drop-cons, add-one}
-use Rattle.std.proofs.lemmas.Bool.{and_parts, leb-true, true≢false}
+use Rattle.std.specs.Prelude.{◌≡◌, ◌≤◌, ◌<◌, ◌+◌, ◌&&◌, ◌++◌, ◌⊎◌, ℕ, zero, suc, List, [], ◌∷◌, length, drop, nat_le, Option, None, Some, IfSome, IsTrue, unwrap_or, slice_get, refl}
+use Rattle.std.proofs.Common.{◌∙◌, ap, ap₂, sym, subst, inl, inr, ⊎_elim, arith, append_assoc, get_or, drop-cons}
+use Rattle.std.proofs.lemmas.Bool.{and_parts, leb-true}
 use Rattle.std.proofs.lemmas.List.FromFn.{length-map-range_with_len}
 use Rattle.std.proofs.lemmas.Option.{get_or_from_slice_get, same_Some, none-some}
 use Rattle.aw_cell.specs.declared.cell.Cell.{Cell}
@@ -14,9 +14,9 @@ use Rattle.mv_core.specs.Workspace.{standing}
 use Rattle.aw_journal.specs.Passed.{Passed}
 use Rattle.aw_journal.specs.declared.fault.LoadFault.{LoadFault}
 use Rattle.aw_store.specs.Images.{HoldsRecords, IsRefused}
-use Rattle.aw_store.specs.Replay.{can_replay, is_commit_among, names_of, workspace_of}
+use Rattle.aw_store.specs.Replay.{can_replay, names_of, workspace_of}
 use Rattle.script_world.specs.Dump.{dumped_object, dumped, dump_text}
-use Rattle.script_play.specs.Ends.{Contents, contents, Says, Wanted, Tells, WasDumped, Dumps}
+use Rattle.script_play.specs.Ends.{Contents, contents, Says, Wanted, Tells, Dumps}
 use Rattle.script_play.specs.Lent.{lent_clock, lent_crash}
 
 some-at : {A : Type 0} (xs : List A) (i : ℕ) → i < length xs → (x : A) × (slice_get xs i ≡ Some x)

@@ -1,5 +1,5 @@
 -- How a run ends, told over the commits and the owners.
-use Rattle.std.specs.Prelude.{◌≡◌, ◌≤◌, ◌<◌, ◌+◌, ◌++◌, ◌⊎◌, ℕ, Bool, true, false, List, [], ◌∷◌, length, take, Option, None, Some, IfSome, IsTrue, unwrap_or, refl}
+use Rattle.std.specs.Prelude.{◌≡◌, ◌≤◌, ◌++◌, ℕ, Bool, true, false, List, [], ◌∷◌, length, take, Option, None, Some, IfSome, IsTrue, unwrap_or, refl}
 use Rattle.std.specs.Option.{option_map}
 use Rattle.std.proofs.Common.{◌∙◌, ap, sym, subst, inl, inr, ⊎_elim, arith, length-append}
 use Rattle.std.proofs.lemmas.List.{take_at}
@@ -24,20 +24,19 @@ use Rattle.script_world.specs.Alike.{standing_disk}
 use Rattle.script_world.specs.Script.{ended_lines, script_lines}
 use Rattle.script_world.specs.Faring.{Fares, HoldsLeft}
 use Rattle.script_world.specs.Transcript.{opening, text_of, world_at, attempts}
-use Rattle.script_world.specs.Running.{HasRun, IsRun}
+use Rattle.script_world.specs.Running.{IsRun}
 use Rattle.script_world.proofs.Faring.{fares_opened, fares_final}
 use Rattle.script_world.proofs.Standing.{are_alike}
 use Rattle.script_world.proofs.Running.{is_run, run_opened}
 use Rattle.script_play.specs.declared.ending.Ending.{Ending}
 use Rattle.script_play.specs.declared.ending.Ending.TheVariants.{Accepted, Refusing, SourceFault, SinkFault, DiskFault, NoMemory, TooLong}
-use Rattle.script_play.specs.declared.stop.Stop.TheVariants as stop
 use Rattle.script_play.specs.declared.world.StoreWorld.{StoreWorld}
 use Rattle.script_play.specs.Statuses.{most_bytes, status_of}
 use Rattle.script_play.specs.StoreWorlds.{world_of, IsSound}
 use Rattle.script_play.specs.Turning.{FewFaults, defining, Later}
-use Rattle.script_play.specs.Playing.{Play, Stands, HasDone, HasTaken, WasCut, HasFailed, HasPlayed, HasFinished}
-use Rattle.script_play.specs.Reading.{Streams, streams, BrokeOff, CutOff, RanOver, EndedWhole, CutAtEnd, EndsRun, EndsFrom}
-use Rattle.script_play.specs.Ends.{IsFront, AreLines, IsWhole, IsCut, IsBroken, IsTooLong, IsUndefined, EndsSo, Contents, contents, WasOpened, Tells, Plays}
+use Rattle.script_play.specs.Playing.{Play, Stands, HasDone, WasCut, HasFailed, HasPlayed, HasFinished}
+use Rattle.script_play.specs.Reading.{Streams, streams, BrokeOff, RanOver, EndsRun, EndsFrom}
+use Rattle.script_play.specs.Ends.{IsFront, AreLines, IsWhole, IsCut, IsUndefined, EndsSo, contents, WasOpened, Tells, Plays}
 use Rattle.script_play.specs.Opened.{opened_world, opened_play}
 use Rattle.script_play.proofs.Turning.{later-same}
 use Rattle.script_play.proofs.Done.{cut_before, rose-earlier}

@@ -1,13 +1,10 @@
 -- What a byte, and bytes one after the other, do to a play.
-use Rattle.std.proofs.Common.{◌≡◌, ◌||◌, ℕ, Bool, true, false, eqb, List, [], ◌∷◌, ◌++◌, Option, Err, refl, sym, ap, ◌∙◌, subst, append_assoc, append-nil}
+use Rattle.std.proofs.Common.{◌≡◌, ◌||◌, ℕ, Bool, false, eqb, List, [], ◌∷◌, ◌++◌, Option, Err, refl, sym, ap, ◌∙◌, subst, append_assoc, append-nil}
 use Rattle.std.specs.Str.Lines.{strip_carriage_return}
 use Rattle.std.proofs.lemmas.Bool.{cond-false}
-use Rattle.aw_io.specs.Known.{Grows, Grows-append}
-use Rattle.aw_codec.specs.declared.record.Decoded.{Decoded}
-use Rattle.aw_store.specs.Stores.{StoreState}
+use Rattle.aw_io.specs.Known.{Grows-append}
 use Rattle.script_world.specs.Script.{ended_lines, open_line}
 use Rattle.script_world.proofs.ScriptLaws.{ended_lines-push, open_line-push, ended_more}
-use Rattle.script_play.specs.declared.world.StoreWorld.{StoreWorld}
 use Rattle.script_play.specs.declared.stop.Stop.{Stop}
 use Rattle.script_play.specs.declared.stop.Stop.TheVariants.{NoMemory}
 use Rattle.script_play.specs.Playing.{Play, said_of, refuses_of, Responded, RespondedSo, HasDone, HasPlayed, HasStopped, Feeds, StopsIn}

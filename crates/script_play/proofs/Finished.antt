@@ -1,5 +1,5 @@
 -- What the end of the script does to a play.
-use Rattle.std.proofs.Common.{◌≡◌, ◌≢◌, ◌||◌, ◌⊎◌, ℕ, Bool, true, false, eqb, List, [], ◌∷◌, ◌++◌, length, Option, None, Some, Result, Ok, Err, refl, sym, ap, ap₂, ◌∙◌, subst, subst₂, ⊎_elim, append-nil}
+use Rattle.std.proofs.Common.{◌≡◌, ◌≢◌, ◌||◌, ℕ, Bool, true, false, eqb, List, [], ◌∷◌, ◌++◌, length, Option, None, Some, Ok, Err, refl, sym, ap, ◌∙◌, subst, subst₂, ⊎_elim, append-nil}
 use Rattle.std.specs.Option.{option_map}
 use Rattle.std.proofs.lemmas.Bool.{cond-true, cond-false}
 use Rattle.aw_io.specs.Known.{Grows, Grows-append}
@@ -7,16 +7,16 @@ use Rattle.aw_codec.specs.declared.record.Decoded.{Decoded}
 use Rattle.aw_store.specs.Replay.{names_of}
 use Rattle.aw_store.specs.Stores.{StoreState}
 use Rattle.script_world.specs.Worlds.{with_shared}
-use Rattle.script_world.specs.Outcomes.{Outcome, done, Attempt}
+use Rattle.script_world.specs.Outcomes.{done, Attempt}
 use Rattle.script_world.specs.Script.{ended_lines, open_line, script_lines}
 use Rattle.script_world.specs.Transcript.{definition_attempts, last_attempts}
 use Rattle.script_world.specs.StoreTurns.{store_disk}
 use Rattle.script_play.specs.declared.world.StoreWorld.{StoreWorld}
 use Rattle.script_play.specs.declared.stop.Stop.{Stop}
 use Rattle.script_play.specs.declared.stop.Stop.TheVariants.{SinkFault, DiskFault, NoMemory}
-use Rattle.script_play.specs.StoreWorlds.{world_of, open_store}
-use Rattle.script_play.specs.Turning.{defining, IsOpen, Opens, FailsToOpen, FinishesWorldSo}
-use Rattle.script_play.specs.Playing.{Play, said_of, refuses_of, Responded, RespondedSo, Stands, HasDone, HasPlayed, HasStopped, HasFinished, EndsLines, Finishes, StopsAtEnd}
+use Rattle.script_play.specs.StoreWorlds.{world_of}
+use Rattle.script_play.specs.Turning.{defining, Opens, FinishesWorldSo}
+use Rattle.script_play.specs.Playing.{Play, said_of, refuses_of, Responded, RespondedSo, Stands, HasDone, HasStopped, HasFinished, EndsLines, Finishes, StopsAtEnd}
 use Rattle.script_play.proofs.Done.{done_line, stands-moves, unattempted, failed_so, cut_before, stopped_line}
 
 -- no line is open: the script's lines are those that ended

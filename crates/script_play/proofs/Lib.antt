@@ -8,3 +8,4 @@ pub mod Taken
 pub mod Endings
 pub mod Lending
 pub mod Dumping
+pub mod Completing

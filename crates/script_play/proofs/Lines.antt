@@ -1,5 +1,5 @@
 -- What the parts of a line's answer mean on the machine.
-use Rattle.std.specs.Prelude.{◌≡◌, ◌≢◌, ◌≤◌, ◌<◌, ◌+◌, ◌&&◌, ◌++◌, ◌⊎◌, ℕ, Bool, true, false, List, [], ◌∷◌, length, nat_lt, Option, None, Some, Result, Err, is_none, if◌then◌else◌, slice_index_or, slice_set, refl}
+use Rattle.std.specs.Prelude.{◌≡◌, ◌≤◌, ◌<◌, ◌&&◌, ◌++◌, ◌⊎◌, ℕ, Bool, true, false, List, [], ◌∷◌, length, nat_lt, Option, None, Some, Result, Err, is_none, if◌then◌else◌, slice_index_or, slice_set, refl}
 use Rattle.std.specs.Option.{option_map}
 use Rattle.std.proofs.Common.{◌∙◌, ap, ap₂, sym, subst, inl, inr, ⊎_elim, arith, append_assoc, append-nil, length-set, length-append}
 use Rattle.std.proofs.lemmas.Bool.{true≢false, and_parts, lt-ltb, le-ltb, ltb-true}
@@ -10,9 +10,7 @@ use Rattle.mv_core.specs.declared.entry.Entry.{Entry}
 use Rattle.mv_core.specs.declared.entry.Entry.TheVariants as entry
 use Rattle.mv_core.specs.declared.entry.Reply.{Reply}
 use Rattle.mv_core.specs.declared.object.Object.{Object}
-use Rattle.mv_core.specs.Integers.{integers}
 use Rattle.mv_core.specs.SharedStep.{writes}
-use Rattle.mv_core.specs.Workspace.{standing, opened}
 use Rattle.aw_store.specs.Replay.{names_of}
 use Rattle.aw_store.specs.Stores.{StoreState}
 use Rattle.ses_step.specs.declared.answer.Answer.{Answer}

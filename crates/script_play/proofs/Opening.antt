@@ -1,5 +1,5 @@
 -- What the writing of the definitions does to a run.
-use Rattle.std.specs.Prelude.{◌≡◌, ◌≤◌, ◌++◌, ◌⊎◌, ℕ, true, false, List, [], ◌∷◌, length, Option, None, Some, IsTrue, refl}
+use Rattle.std.specs.Prelude.{◌≡◌, ◌≤◌, ◌++◌, ◌⊎◌, ℕ, List, [], ◌∷◌, length, None, IsTrue, refl}
 use Rattle.std.proofs.Common.{◌∙◌, ap, sym, subst}
 use Rattle.std.proofs.lemmas.Bool.{true≢false}
 use Rattle.std.proofs.lemmas.Option.{none-some}
@@ -12,10 +12,9 @@ use Rattle.aw_journal.specs.Passed.{Passed}
 use Rattle.aw_store.specs.Images.{HoldsRecords, LeftRecords}
 use Rattle.aw_store.specs.Replay.{can_replay, names_of}
 use Rattle.aw_store.specs.Stores.{StoreState, Writes, Doubts}
-use Rattle.script_world.specs.Outcomes.{done, faulted}
 use Rattle.script_world.proofs.Acting.{fares_done, fares_faulted}
 use Rattle.script_play.specs.declared.world.StoreWorld.{StoreWorld}
-use Rattle.script_play.specs.Turning.{defining, Moves, Opens, FailsToOpen}
+use Rattle.script_play.specs.Turning.{Opens, FailsToOpen}
 use Rattle.script_play.proofs.Turning.{few-none, later-passed}
 
 -- without definitions there are no records

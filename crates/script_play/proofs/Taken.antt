@@ -1,5 +1,5 @@
 -- Reading a script piece by piece.
-use Rattle.std.proofs.Common.{◌≡◌, ◌≤◌, ◌+◌, ℕ, List, [], ◌∷◌, ◌++◌, length, Option, Result, Ok, Err, refl, sym, subst, inl, inr, arith, length-append}
+use Rattle.std.proofs.Common.{◌≡◌, ◌≤◌, ◌+◌, ℕ, List, [], ◌++◌, length, Option, Result, Ok, Err, refl, sym, subst, inl, inr, arith, length-append}
 use Rattle.std.specs.Io.KnownBytes.{IsAtEnd}
 use Rattle.aw_io.specs.Known.{Gives, Gives-nothing, Gives-append}
 use Rattle.aw_codec.specs.declared.record.Decoded.{Decoded}
@@ -10,7 +10,7 @@ use Rattle.script_play.specs.declared.stop.Stop.{Stop}
 use Rattle.script_play.specs.declared.stop.Stop.TheVariants as stop
 use Rattle.script_play.specs.Statuses.{most_bytes}
 use Rattle.script_play.specs.Playing.{Play, Feeds, StopsIn}
-use Rattle.script_play.specs.Reading.{Streams, streams, GivesOne, EndsOrFails, stop_ending, HasRead, ReadAll, BrokeOff, CutOff, RanOver, StoppedReading, HasReadFrom, ReadsFrom, EndsFrom, FinishesBy}
+use Rattle.script_play.specs.Reading.{Streams, streams, GivesOne, EndsOrFails, stop_ending, CutOff, StoppedReading, HasReadFrom, ReadsFrom, EndsFrom, FinishesBy}
 
 -- a source that gave nothing more
 gives_as : {a b c : Option (List ℕ)} {bytes : List ℕ} → Gives a b bytes → c ≡ b → Gives a c bytes

@@ -1,7 +1,6 @@
 -- What the calls of a store do, as parts of the answer to a line.
-use Rattle.std.specs.Prelude.{◌≡◌, ◌≢◌, ◌≤◌, ◌<◌, ◌+◌, ◌-◌, ◌^◌, ◌++◌, ◌⊎◌, ℕ, Bool, true, false, cond, List, [], ◌∷◌, min, Option, None, Some, refl}
-use Rattle.std.specs.List.{count_by}
-use Rattle.std.proofs.Common.{◌∙◌, ap, ap₂, sym, subst, subst₂, inl, inr, ⊎_elim, arith, append_assoc, append-nil}
+use Rattle.std.specs.Prelude.{◌≡◌, ◌≢◌, ◌≤◌, ◌+◌, ◌++◌, ◌⊎◌, ℕ, Bool, true, false, cond, List, [], ◌∷◌, Some, refl}
+use Rattle.std.proofs.Common.{◌∙◌, ap, ap₂, sym, subst₂, inl, inr, ⊎_elim, arith, append_assoc, append-nil}
 use Rattle.std.proofs.lemmas.Bool.{cases_lt}
 use Rattle.std.proofs.lemmas.List.Sums.{sum_by-append}
 use Rattle.std.proofs.lemmas.Option.{none-some}
@@ -17,7 +16,7 @@ use Rattle.mv_core.specs.SharedStep.{writes}
 use Rattle.aw_journal.specs.Passed.{Passed}
 use Rattle.aw_store.specs.Images.{HoldsRecords, LeftRecords}
 use Rattle.aw_store.specs.Replay.{names_of}
-use Rattle.aw_store.specs.Stores.{StoreState, record_of, Answers, Writes, Acts}
+use Rattle.aw_store.specs.Stores.{StoreState, record_of, Answers, Acts}
 use Rattle.ses_step.specs.declared.answer.Answer.{Answer}
 use Rattle.ses_step.specs.declared.line.Command.{Command}
 use Rattle.ses_step.specs.declared.session.Begun.TheVariants.{Said, Ask}

@@ -143,6 +143,17 @@ module _ (s : Streams) (c : Contents) (before now : ℕ) (past since : ℕ → L
   abbrev pub Plays : ℕ → Type 0
   Plays status = NotOpened status ⊎ WasOpened status
 
+-- ---- completeness
+
+-- one list of records, and perhaps one record more, is what each of these images holds
+pub record AreFormatted (images : List ℕ → Type 0) : Type 0 where
+  pub records : List Decoded
+  pub each : (image : List ℕ) → images image → HoldsRecords image records ⊎ ((more : Decoded) × HoldsRecords image (records ++ more ∷ []))
+
+-- the whole script was answered, or memory ran out, or the script was too long
+abbrev pub Completes : ℕ → Type 0
+Completes status = (status ≡ 0) ⊎ ((status ≡ 1) ⊎ ((status ≡ 6) ⊎ (status ≡ 10)))
+
 -- ---- `dump`
 
 -- the disk was opened with records, and their dump was written, or a front of it

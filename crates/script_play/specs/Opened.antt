@@ -1,5 +1,5 @@
 -- The play that begins over a store that was just loaded.
-use Rattle.std.specs.Prelude.{ℕ, false, List, [], unwrap_or}
+use Rattle.std.specs.Prelude.{false, [], unwrap_or}
 use Rattle.aw_store.specs.Replay.{names_of}
 use Rattle.aw_store.specs.Stores.{StoreState}
 use Rattle.script_play.specs.declared.world.StoreWorld.{StoreWorld}

@@ -5,7 +5,7 @@ use Rattle.aw_io.specs.Known.{Grows, GrowsByFront}
 use Rattle.aw_codec.specs.declared.record.Decoded.{Decoded}
 use Rattle.mv_core.specs.Integers.{integers}
 use Rattle.mv_core.specs.Workspace.{standing}
-use Rattle.aw_store.specs.Replay.{names_of, workspace_of}
+use Rattle.aw_store.specs.Replay.{workspace_of}
 use Rattle.aw_store.specs.Stores.{StoreState}
 use Rattle.ses_step.specs.Answers.{answer_line, is_refusal}
 use Rattle.script_world.specs.Worlds.{World, with_shared}
@@ -20,7 +20,7 @@ use Rattle.script_play.specs.declared.world.StoreWorld.{StoreWorld}
 use Rattle.script_play.specs.declared.stop.Stop.{Stop}
 use Rattle.script_play.specs.declared.stop.Stop.TheVariants.{SinkFault, DiskFault, NoMemory}
 use Rattle.script_play.specs.declared.response.Response.{Response}
-use Rattle.script_play.specs.StoreWorlds.{world_of, IsMade, IsSound}
+use Rattle.script_play.specs.StoreWorlds.{world_of, IsMade}
 use Rattle.script_play.specs.Turning.{FewFaults, defining, Later, line_means, Answers, Wants, FailsToOpen}
 
 -- what is written of a response, and whether it is a refusal

@@ -1,7 +1,7 @@
 -- What reading the script did: the bytes that were taken, what was written for them, and the play after them.
-use Rattle.std.specs.Prelude.{◌≡◌, ◌≤◌, ◌+◌, ◌++◌, ◌⊎◌, ℕ, Bool, true, false, List, [], ◌∷◌, length, take, Option, Result, Ok, Err}
+use Rattle.std.specs.Prelude.{◌≡◌, ◌≤◌, ◌+◌, ◌++◌, ◌⊎◌, ℕ, Bool, true, false, List, [], ◌∷◌, length, Option, Result, Ok, Err}
 use Rattle.std.specs.Io.KnownBytes.{IsAtEnd}
-use Rattle.aw_io.specs.Known.{Gives, Grows, GrowsByFront}
+use Rattle.aw_io.specs.Known.{Gives, Grows}
 use Rattle.aw_codec.specs.declared.record.Decoded.{Decoded}
 use Rattle.aw_store.specs.Stores.{StoreState}
 use Rattle.script_world.specs.Script.{ended_lines, script_lines}

@@ -1,8 +1,8 @@
-ghost use Rattle.std.specs.Prelude.{◌≡◌, ◌≢◌, ◌≤◌};
+ghost use Rattle.std.specs.Prelude.{◌≡◌, ◌≢◌, ◌≤◌, ℕ, List, Some};
 ghost use Rattle.aw_lists.specs.Faults.{Rose};
 ghost use Rattle.script_play.specs.Statuses as spec;
 ghost use Rattle.script_play.specs.Reading.{streams};
-ghost use Rattle.script_play.specs.Ends.{Plays, Makes, Dumps, Refuses, contents};
+ghost use Rattle.script_play.specs.Ends.{Plays, AreFormatted, Completes, Makes, Dumps, Refuses, contents};
 
 use crate::dump::dump;
 use crate::lent::Lent;
@@ -69,6 +69,9 @@ fn play_kept<'a, D: Disk, S: Source, K: Sink>(
 ) -> (u8, &'a mut D)
     ensures same { result.1.ghost_name ≡ disk.entry.ghost_name }
     ensures plays { Plays (streams (S.left script.old) (S.left script.new) (K.written out.old) (K.written out.new)) (contents (D.content disk.old) (D.content result.1.now) (D.faults disk.old) (D.faults result.1.now)) (D.clock disk.old) (D.clock result.1.now) (D.crash disk.old) (D.crash result.1.now) result.0 }
+    ensures completes { AreFormatted (D.crash disk.old (D.clock disk.old)) → (image : List ℕ) → D.content disk.old ≡ Some image
+        → ¬ (Rose (S.faults script.old) (S.faults script.new)) → ¬ (Rose (K.faults out.old) (K.faults out.new)) → ¬ (Rose (D.faults disk.old) (D.faults result.1.now))
+        → Completes result.0 }
     ensures source_later { S.faults script.old ≤ S.faults script.new }
     ensures sink_later { K.faults out.old ≤ K.faults out.new }
     ensures disk_later { D.faults disk.old ≤ D.faults result.1.now }
@@ -88,6 +91,9 @@ fn play_lent<D: Disk, S: Source, K: Sink>(
     disk: &mut D,
 ) -> u8
     ensures plays { Plays (streams (S.left script.old) (S.left script.new) (K.written out.old) (K.written out.new)) (contents (D.content disk.old) (D.content disk.new) (D.faults disk.old) (D.faults disk.new)) (D.clock disk.old) (D.clock disk.new) (D.crash disk.old) (D.crash disk.new) result }
+    ensures completes { AreFormatted (D.crash disk.old (D.clock disk.old)) → (image : List ℕ) → D.content disk.old ≡ Some image
+        → ¬ (Rose (S.faults script.old) (S.faults script.new)) → ¬ (Rose (K.faults out.old) (K.faults out.new)) → ¬ (Rose (D.faults disk.old) (D.faults disk.new))
+        → Completes result }
     ensures source_later { S.faults script.old ≤ S.faults script.new }
     ensures sink_later { K.faults out.old ≤ K.faults out.new }
     ensures disk_later { D.faults disk.old ≤ D.faults disk.new }
@@ -156,6 +162,9 @@ pub fn run<S: Source, K: Sink, D: Disk>(
 ) -> u8
     ensures plays { spec.command_of words.now ≡ Command.Play
         → Plays (streams (S.left script.old) (S.left script.new) (K.written out.old) (K.written out.new)) (contents (D.content disk.old) (D.content disk.new) (D.faults disk.old) (D.faults disk.new)) (D.clock disk.old) (D.clock disk.new) (D.crash disk.old) (D.crash disk.new) result }
+    ensures completes { spec.command_of words.now ≡ Command.Play → AreFormatted (D.crash disk.old (D.clock disk.old)) → (image : List ℕ) → D.content disk.old ≡ Some image
+        → ¬ (Rose (S.faults script.old) (S.faults script.new)) → ¬ (Rose (K.faults out.old) (K.faults out.new)) → ¬ (Rose (D.faults disk.old) (D.faults disk.new))
+        → Completes result }
     ensures makes { spec.command_of words.now ≡ Command.New
         → Makes D.content D.faults D.clock D.crash disk.old disk.new (K.written out.old) (K.written out.new) result }
     ensures dumps { spec.command_of words.now ≡ Command.Dump

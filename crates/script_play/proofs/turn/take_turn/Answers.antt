@@ -1,4 +1,4 @@
-use Rattle.script_play.proofs.Turning.{said_turned, replied_turned, asked_takes}
+use Rattle.script_play.proofs.Turning.{said_turned}
 use Rattle.script_play.proofs.turn.take_turn.Goals as goal
 
 pub returns-in-Said-clause-ok : goal.returns-in-Said-clause-ok

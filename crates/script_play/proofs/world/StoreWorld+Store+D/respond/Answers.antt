@@ -1,4 +1,4 @@
-use Rattle.std.proofs.Common.{◌∙◌, ap, subst, Ok, Err, None, Some}
+use Rattle.std.proofs.Common.{◌∙◌, ap, subst, Ok, None, Some}
 use Rattle.script_play.specs.StoreWorlds.{refused_response}
 use Rattle.script_play.specs.Turning.{DefinesName}
 use Rattle.script_play.proofs.Lines.{form_as, blank_answers, malformed_answers, joins_answers}

@@ -1,5 +1,4 @@
-use Rattle.script_play.proofs.Lines.{closes_open, closes_paired, stops_closing, named_answers, named_wants}
-use Rattle.script_play.specs.Turning.{named_means}
+use Rattle.script_play.proofs.Lines.{closes_open, closes_paired, named_answers, named_wants}
 use Rattle.script_play.proofs.world.StoreWorld+Store+D.under_name.Goals as goal
 
 pub session_line-requires-clause-paired : goal.session_line-requires-clause-paired
