@@ -19,6 +19,7 @@ pub mod Isolation
 pub mod Extending
 pub mod DiskExtending
 pub mod FaultLines
+pub mod AllDone
 pub mod Faring
 pub mod Acting
 pub mod Acknowledged

@@ -10,6 +10,7 @@ pub mod Matching
 pub mod Isolation
 pub mod Extending
 pub mod FaultLines
+pub mod AllDone
 pub mod Acting
 pub mod Faring
 pub mod Learning

@@ -9,6 +9,7 @@ ghost use Rattle.mv_core.specs.Workspace.{Workspace, standing};
 ghost use Rattle.aw_store.specs.Replay.{workspace_of};
 ghost use Rattle.script_world.specs.Acknowledging.{LeavesAllDone};
 ghost use Rattle.script_world.specs.Alike.{AreAlike};
+ghost use Rattle.script_world.specs.AllDone.{AreDone, IsAsWithNone};
 ghost use Rattle.script_world.specs.Extending.{CommitsExtend, GrantsHaveLatest};
 ghost use Rattle.script_world.specs.FaultLines.{NextSeesFaults, FaultsAreSeen};
 ghost use Rattle.script_world.specs.Fit.{WorldFits};
@@ -77,6 +78,13 @@ pub fn text_is_told_once()
 pub fn faults_are_seen()
     ensures each { (records : List Decoded) (coming : List Outcome) (lines : List (List ℕ)) (line : List ℕ) → NextSeesFaults records coming lines line }
     ensures all { (records : List Decoded) (coming : List Outcome) (lines : List (List ℕ)) → FaultsAreSeen records coming lines }
+{}
+
+/// Where each commit's outcome is done, nothing depends on the list of outcomes: the text, the
+/// refusals, the attempts and the world are those with no outcomes at all. See docs/SHARING.md,
+/// 'What is proved'.
+pub fn done_outcomes_change_nothing()
+    ensures { (records : List Decoded) (outcomes : List Outcome) (lines : List (List ℕ)) → AreDone outcomes → IsAsWithNone records outcomes lines }
 {}
 
 /// The objects as they stand, which the code keeps, write the text, refuse the lines and make the
