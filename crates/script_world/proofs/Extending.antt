@@ -90,7 +90,7 @@ module _ (definitions names : List (List ℕ)) (sessions : List Session) (shared
   views_fit : ViewsFit shared s.who views
   views_fit = (fits.each s.who s own_place).views views attached
 
-  within : (object : ℕ) (view : View) → slice_get views object ≡ Some view → object < shared.objects
+  pub within : (object : ℕ) (view : View) → slice_get views object ≡ Some view → object < shared.objects
   within object view is = omega (arith, slice_get_within views object view is, views_fit.count)
 
   owned_has_latest : (object : ℕ) (view : View) → slice_get views object ≡ Some view → view.owned ≡ true → HasLatest shared.history object view
@@ -113,11 +113,11 @@ module _ (definitions names : List (List ℕ)) (sessions : List Session) (shared
 
   -- ---- what a commit adds
 
-  staged_found : (object : ℕ) (view : View) → slice_get views object ≡ Some view → (staged : Bool) → is_staged view ≡ staged → change_of integers object (changes_in views) ≡ (if staged then Some (change_of_view view) else None)
+  pub staged_found : (object : ℕ) (view : View) → slice_get views object ≡ Some view → (staged : Bool) → is_staged view ≡ staged → change_of integers object (changes_in views) ≡ (if staged then Some (change_of_view view) else None)
   staged_found object view is staged e =
       change_of-view shared s.who views views_fit object view is ∙ ap (λ it. if it then Some (change_of_view view) else None) e
 
-  IsCommitted-accepted : (object : ℕ) (view : View) → slice_get views object ≡ Some view → IsCommitted shared.history (shared.history ++ changes_in views ∷ []) object view
+  pub IsCommitted-accepted : (object : ℕ) (view : View) → slice_get views object ≡ Some view → IsCommitted shared.history (shared.history ++ changes_in views ∷ []) object view
   IsCommitted-accepted object view is = record {
     changed = λ staged.
         let found = staged_found object view is true staged in

@@ -65,7 +65,7 @@ length-fresh_from at (it ∷ objects) = ap suc (length-fresh_from (at + 1) objec
 pub slice_get-standing : (shared : Workspace Change) (object : ℕ) → object < shared.objects → slice_get (standing integers shared) object ≡ Some (object_of integers shared object)
 slice_get-standing shared object within = slice_get-map_range (object_of integers shared) 0 shared.objects object object within (omega arith)
 
-abbrev latest_fresh : Workspace Change → ℕ → Fresh
+abbrev pub latest_fresh : Workspace Change → ℕ → Fresh
 latest_fresh shared object = record { object = object; number = latest_number integers shared.history object; cell = latest_body integers shared.history object }
 
 ViewFits-seen : (shared : Workspace Change) (who object : ℕ) → is_value (latest_body integers shared.history object) ≡ true → owner_of shared.owners object ≢ Some who → ViewFits shared who object (seen (latest_fresh shared object))
@@ -78,16 +78,22 @@ ViewFits-seen shared who object value not_owned = record {
   values = (value, value);
 }
 
+pub length-seen : (shared : Workspace Change) → length (map seen (fresh_from 0 (standing integers shared))) ≡ shared.objects
+length-seen shared =
+    length-map (fresh_from 0 (standing integers shared)) seen ∙ length-fresh_from 0 (standing integers shared) ∙ length-standing integers shared
+
+pub seen-latest : (shared : Workspace Change) (object : ℕ) (view : View) → slice_get (map seen (fresh_from 0 (standing integers shared))) object ≡ Some view → view ≡ seen (latest_fresh shared object)
+seen-latest shared object view is =
+    let fresh = fresh_from 0 (standing integers shared) in
+    let from = slice_get-map_from seen fresh object view is in
+    let within : object < shared.objects = omega (arith, slice_get_within fresh object from.0 from.1, length-fresh_from 0 (standing integers shared), length-standing integers shared) in
+    let latest = slice_get-fresh_from 0 (standing integers shared) object object (object_of integers shared object) (omega arith) (slice_get-standing shared object within) in
+    from.2 ∙ ap seen (same_Some from.0 (latest_fresh shared object) (sym from.1 ∙ latest))
+
 pub ViewsFit-seen : (shared : Workspace Change) (who : ℕ) → ((object : ℕ) → is_value (latest_body integers shared.history object) ≡ true) → ((object : ℕ) → owner_of shared.owners object ≢ Some who) → ViewsFit shared who (map seen (fresh_from 0 (standing integers shared)))
 ViewsFit-seen shared who values not_owned = record {
-  count = length-map (fresh_from 0 (standing integers shared)) seen ∙ length-fresh_from 0 (standing integers shared) ∙ length-standing integers shared;
-  each = λ object view is.
-      let fresh = fresh_from 0 (standing integers shared) in
-      let from = slice_get-map_from seen fresh object view is in
-      let within : object < shared.objects = omega (arith, slice_get_within fresh object from.0 from.1, length-fresh_from 0 (standing integers shared), length-standing integers shared) in
-      let latest = slice_get-fresh_from 0 (standing integers shared) object object (object_of integers shared object) (omega arith) (slice_get-standing shared object within) in
-      let same : from.0 ≡ latest_fresh shared object = same_Some from.0 (latest_fresh shared object) (sym from.1 ∙ latest) in
-      subst (ViewFits shared who object) (sym (from.2 ∙ ap seen same)) (ViewFits-seen shared who object (values object) (not_owned object));
+  count = length-seen shared;
+  each = λ object view is. subst (ViewFits shared who object) (sym (seen-latest shared object view is)) (ViewFits-seen shared who object (values object) (not_owned object));
 }
 
 -- ---- one session's turn among all sessions

@@ -89,7 +89,7 @@ option_map-none f None is = refl
 option_map-none f (Some x) is = absurd (none-some (f x) (sym is))
 
 -- a changed object whose numbers aren't used up
-number-small : (shared : Workspace Change) (changes : List Change) (object : ℕ) (change : Change) → object < shared.objects → first_worn integers (standing integers shared) changes ≡ None → change_of integers object changes ≡ Some change → latest_number integers shared.history object < 18446744073709551615
+pub number-small : (shared : Workspace Change) (changes : List Change) (object : ℕ) (change : Change) → object < shared.objects → first_worn integers (standing integers shared) changes ≡ None → change_of integers object changes ≡ Some change → latest_number integers shared.history object < 18446744073709551615
 number-small shared changes object change within none found =
     let worn : Change → Bool = λ c. is_worn integers (slice_get (standing integers shared) c.object) in
     let fails = find-fails (λ c. c.object == object) worn changes change found (option_map-none (λ c. c.object) (find worn changes) none) in

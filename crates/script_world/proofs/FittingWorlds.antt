@@ -46,7 +46,7 @@ SharedFits-pushed definitions sessions shared own_place last fits = record {
     fresh : (who : ℕ) → own_place ≡ who → SessionFits shared who (new_session own_place)
     fresh who same = record { number = same; views = λ views is. absurd (none-some views is) }
 
-session_place-le : {S : Type 0} (w : World S) (name : List ℕ) → session_place w name ≤ length w.names
+pub session_place-le : {S : Type 0} (w : World S) (name : List ℕ) → session_place w name ≤ length w.names
 session_place-le w name = by_place (place_of w.names name) refl
   where
     first : ℕ
@@ -102,7 +102,7 @@ module _ (all : List Outcome) (records : List Decoded) where
 
   -- ---- the first session line
 
-  closed_reached : (w : World (OnDisk (Workspace Change))) → Reached w → Reached (closed (by_history all) w)
+  pub closed_reached : (w : World (OnDisk (Workspace Change))) → Reached w → Reached (closed (by_history all) w)
   closed_reached w it = record {
     fits = record {
       defined = it.fits.defined;
@@ -143,12 +143,12 @@ module _ (all : List Outcome) (records : List Decoded) where
   abbrev IsOpen : World (OnDisk (Workspace Change)) → Type 0
   IsOpen w = w.shared ≡ Some (shared_of (by_history all) w)
 
-  record HasOwnPlace (w : World (OnDisk (Workspace Change))) (own_place : ℕ) : Type 0 where
-    reached : Reached w
-    is_open : IsOpen w
-    within : own_place < length w.sessions
+  pub record HasOwnPlace (w : World (OnDisk (Workspace Change))) (own_place : ℕ) : Type 0 where
+    pub reached : Reached w
+    pub is_open : IsOpen w
+    pub within : own_place < length w.sessions
 
-  with_session_reached : (w : World (OnDisk (Workspace Change))) (name : List ℕ) → Reached w → IsOpen w → session_place w name < 64 → HasOwnPlace (with_session w name) (session_place w name)
+  pub with_session_reached : (w : World (OnDisk (Workspace Change))) (name : List ℕ) → Reached w → IsOpen w → session_place w name < 64 → HasOwnPlace (with_session w name) (session_place w name)
   with_session_reached w name it is_open room = by_test (nat_lt (session_place w name) (length w.names)) refl
     where
       newer : World (OnDisk (Workspace Change))

@@ -18,7 +18,7 @@ module _ (coming : List Outcome) (who : ℕ) (session : Session) where
   abbrev Holds : World (OnDisk (Workspace Change)) → Type 0
   Holds w = slice_get w.sessions who ≡ Some session
 
-  with_session_holds : (w : World (OnDisk (Workspace Change))) (name : List ℕ) → Holds w → Holds (with_session w name)
+  pub with_session_holds : (w : World (OnDisk (Workspace Change))) (name : List ℕ) → Holds w → Holds (with_session w name)
   with_session_holds w name holds =
       let fresh = new_session (session_place w name) in
       if-holds Holds (nat_lt (session_place w name) (length w.names)) w (record w { names = w.names ++ name ∷ []; sessions = w.sessions ++ fresh ∷ [] }) holds (slice_get-append w.sessions (fresh ∷ []) who session holds)

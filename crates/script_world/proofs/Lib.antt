@@ -17,6 +17,9 @@ pub mod FittingWorlds
 pub mod Opening
 pub mod Isolation
 pub mod Extending
+pub mod Reading
+pub mod ReadingOn
+pub mod Acquiring
 pub mod DiskExtending
 pub mod FaultLines
 pub mod AllDone

@@ -9,6 +9,8 @@ pub mod Fit
 pub mod Matching
 pub mod Isolation
 pub mod Extending
+pub mod Reading
+pub mod Acquiring
 pub mod FaultLines
 pub mod AllDone
 pub mod Acting

@@ -8,6 +8,7 @@ ghost use Rattle.mv_core.specs.Integers.{integers};
 ghost use Rattle.mv_core.specs.Workspace.{Workspace, standing};
 ghost use Rattle.aw_store.specs.Replay.{workspace_of};
 ghost use Rattle.script_world.specs.Acknowledging.{LeavesAllDone};
+ghost use Rattle.script_world.specs.Acquiring.{AcquiresAreAnswered};
 ghost use Rattle.script_world.specs.Alike.{AreAlike};
 ghost use Rattle.script_world.specs.AllDone.{AreDone, IsAsWithNone};
 ghost use Rattle.script_world.specs.Extending.{CommitsExtend, GrantsHaveLatest};
@@ -17,6 +18,7 @@ ghost use Rattle.script_world.specs.Isolation.{KeepsOthers};
 ghost use Rattle.script_world.specs.Learning.{outcomes_in, world_with, IsToldOnce, IsLearnt, next_answer, UsesAll, GoesOn};
 ghost use Rattle.script_world.specs.Matching.{CanBeOpened, RecordsMatch};
 ghost use Rattle.script_world.specs.Outcomes.{Outcome, Attempt, OnDisk, history_machine, objects_machine};
+ghost use Rattle.script_world.specs.Reading.{AttachGivesLatest, OwnCommandsMove, ShowsWhatIsRead, ReadItsOwn};
 ghost use Rattle.script_world.specs.Transcript.{world_at};
 ghost use Rattle.script_world.specs.Worlds.{World};
 
@@ -41,6 +43,24 @@ pub fn commits_extend_the_latest()
 /// See docs/SHARING.md, 'What is proved'.
 pub fn grants_have_the_latest()
     ensures { (records : List Decoded) (coming : List Outcome) (lines : List (List ℕ)) → CanBeOpened records → GrantsHaveLatest coming (world_at records coming lines) }
+{}
+
+/// After any lines of a script, an ACQUIRE of a defined object is answered by its owner, and where
+/// it has none by whether the session has its latest generation. See docs/SHARING.md, 'What is
+/// proved'.
+pub fn acquires_are_answered()
+    ensures { (records : List Decoded) (coming : List Outcome) (lines : List (List ℕ)) → CanBeOpened records → AcquiresAreAnswered coming (world_at records coming lines) }
+{}
+
+/// What a session reads is its own. AW ATTACH gives it the latest generation of each object. From
+/// then on it reads that, or what its own lines assigned last, and SHOW shows this. A command of its
+/// own moves what it has of an object so: it stages by UPDATE alone, has another generation by its
+/// own COMMIT alone, and gains an object by ACQUIRE alone. See docs/SHARING.md, 'What is proved'.
+pub fn sessions_read_their_own()
+    ensures attached { (coming : List Outcome) → AttachGivesLatest coming }
+    ensures moved { (records : List Decoded) (coming : List Outcome) (lines : List (List ℕ)) → CanBeOpened records → OwnCommandsMove coming (world_at records coming lines) }
+    ensures shown { (records : List Decoded) (coming : List Outcome) (lines : List (List ℕ)) → CanBeOpened records → ShowsWhatIsRead coming (world_at records coming lines) }
+    ensures since { (records : List Decoded) (coming : List Outcome) (lines : List (List ℕ)) → CanBeOpened records → ReadItsOwn records coming lines }
 {}
 
 /// A line changes nothing of what a session holds, unless it is of that session. So what a session
