@@ -23,6 +23,7 @@ pub mod Acquiring
 pub mod DiskExtending
 pub mod FaultLines
 pub mod AllDone
+pub mod CrashRuns
 pub mod Faring
 pub mod Acting
 pub mod Acknowledged

@@ -13,6 +13,7 @@ pub mod Reading
 pub mod Acquiring
 pub mod FaultLines
 pub mod AllDone
+pub mod CrashRuns
 pub mod Acting
 pub mod Faring
 pub mod Learning

@@ -11,6 +11,7 @@ ghost use Rattle.script_world.specs.Acknowledging.{LeavesAllDone};
 ghost use Rattle.script_world.specs.Acquiring.{AcquiresAreAnswered};
 ghost use Rattle.script_world.specs.Alike.{AreAlike};
 ghost use Rattle.script_world.specs.AllDone.{AreDone, IsAsWithNone};
+ghost use Rattle.script_world.specs.CrashRuns.{LeavesARun, LeavesWhatOpens};
 ghost use Rattle.script_world.specs.Extending.{CommitsExtend, GrantsHaveLatest};
 ghost use Rattle.script_world.specs.FaultLines.{NextSeesFaults, FaultsAreSeen};
 ghost use Rattle.script_world.specs.Fit.{WorldFits};
@@ -117,4 +118,13 @@ pub fn objects_answer_as_commits()
 /// those of all attempts that were done, and nothing else. See docs/SHARING.md, 'Commits on a disk'.
 pub fn acknowledged_records_are_left()
     ensures { (opened : List Decoded) (made : List Attempt) (attempted : Decoded) (records : List Decoded) → LeavesAllDone opened made attempted records }
+{}
+
+/// What a crash at any moment leaves of these lines is the records with which the disk was opened, or
+/// what the same lines settle with other outcomes of their commits, as where the disk fails in every
+/// commit from some point on. So every law on the commits of a run holds of what a crash leaves. See
+/// docs/SHARING.md, 'Commits on a disk'.
+pub fn crashes_leave_what_a_run_settles()
+    ensures settled { (records : List Decoded) (coming : List Outcome) (lines : List (List ℕ)) → LeavesARun records coming lines }
+    ensures opens { (records : List Decoded) (coming : List Outcome) (lines : List (List ℕ)) → CanBeOpened records → LeavesWhatOpens records coming lines }
 {}
