@@ -1,16 +1,14 @@
 -- How an ACQUIRE is answered.
-use Rattle.std.specs.Prelude.{◌≡◌, ◌<◌, ◌==◌, ℕ, Bool, List, Option, Some, None, Result, Ok, Err, length, nat_lt, slice_get, if◌then◌else◌, refl}
+use Rattle.std.specs.Prelude.{◌≡◌, ◌<◌, ◌==◌, ℕ, Bool, List, Option, Some, None, Result, Ok, Err, length, slice_get, if◌then◌else◌, refl}
 use Rattle.std.specs.Option.{ok_or}
 use Rattle.std.proofs.Common.{◌∙◌, ap, sym, subst, ⊎_elim, arith}
 use Rattle.std.proofs.lemmas.Bool.{eq-eqb, ne_eqb, lt-ltb, le-ltb}
 use Rattle.std.proofs.lemmas.Option.{slice_get_within, slice_get_cases}
-use Rattle.aw_cell.specs.declared.cell.Cell.{Cell}
 use Rattle.aw_codec.specs.declared.record.Decoded.{Decoded}
 use Rattle.mv_core.specs.declared.entry.Change.{Change}
 use Rattle.mv_core.specs.declared.entry.Entry.TheVariants as entry
 use Rattle.mv_core.specs.declared.entry.Reply.{Reply}
 use Rattle.mv_core.specs.declared.entry.Reply.TheVariants.{Acquired, Newer, Owned}
-use Rattle.mv_core.specs.declared.object.Object.{Object}
 use Rattle.mv_core.specs.Generations.{latest_number}
 use Rattle.mv_core.specs.Owners.{owner_of}
 use Rattle.mv_core.specs.Workspace.{Workspace, object_of, standing}
@@ -25,7 +23,7 @@ use Rattle.ses_step.specs.declared.session.Session.{Session}
 use Rattle.ses_step.specs.declared.session.View.{View}
 use Rattle.ses_step.specs.Words.{place_of}
 use Rattle.ses_step.specs.Answers.{no_form, not_attached}
-use Rattle.ses_step.specs.Sessions.{finished, located}
+use Rattle.ses_step.specs.Sessions.{finished}
 use Rattle.script_world.specs.Worlds.{World, turn_from, turn}
 use Rattle.script_world.specs.Outcomes.{Outcome, OnDisk, by_history}
 use Rattle.script_world.specs.Transcript.{world_at}

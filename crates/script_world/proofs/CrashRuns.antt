@@ -1,6 +1,6 @@
 -- What a crash leaves of a run is what the same lines settle where the disk fails in every commit from some point on.
-use Rattle.std.specs.Prelude.{◌≡◌, ◌<◌, ◌≤◌, ◌+◌, ◌++◌, ◌⊎◌, ℕ, zero, suc, Bool, true, false, List, [], ◌∷◌, length, take, drop, Option, Some, None, nat_lt, slice_get, slice_set, slice_index_or, unwrap_or, if◌then◌else◌, refl}
-use Rattle.std.specs.Option.{option_map, option_to_list, ForSome}
+use Rattle.std.specs.Prelude.{◌≡◌, ◌≤◌, ◌++◌, ◌⊎◌, ℕ, zero, suc, Bool, true, false, List, [], ◌∷◌, length, take, drop, Option, Some, None, nat_lt, slice_get, slice_set, slice_index_or, unwrap_or, if◌then◌else◌, refl}
+use Rattle.std.specs.Option.{option_map, option_to_list}
 use Rattle.std.proofs.Common.{◌∙◌, ap, sym, subst, inl, inr, ⊎_elim, arith, append-nil, append_assoc, length-append, take_all, take-append-drop}
 use Rattle.std.proofs.lemmas.Bool.{cases_lt}
 use Rattle.std.proofs.lemmas.Option.{none-some, same_Some, slice_get_within}
@@ -8,7 +8,6 @@ use Rattle.std.proofs.Math.Seq.{take-append_seam}
 use Rattle.aw_codec.specs.declared.record.Decoded.{Decoded}
 use Rattle.aw_codec.specs.declared.record.Decoded.TheVariants.{Definitions}
 use Rattle.mv_core.specs.declared.entry.Change.{Change}
-use Rattle.mv_core.specs.declared.entry.Entry.{Entry}
 use Rattle.mv_core.specs.declared.entry.Reply.{Reply}
 use Rattle.mv_core.specs.SharedStep.{writes}
 use Rattle.mv_core.specs.Workspace.{Workspace, opened}
@@ -22,9 +21,9 @@ use Rattle.ses_step.specs.declared.session.Begun.TheVariants.{Said, Ask}
 use Rattle.ses_step.specs.declared.session.Session.{Session}
 use Rattle.ses_step.specs.Lines.{line_form}
 use Rattle.ses_step.specs.Sessions.{new_session, begun}
-use Rattle.script_world.specs.Worlds.{World, Turn, replied, turn_from, turn, silent, refused_as_no_form, no_session, can_define, session_place, commanded, line_answered, answered}
+use Rattle.script_world.specs.Worlds.{World, Turn, replied, turn_from, silent, refused_as_no_form, no_session, can_define, session_place, commanded, line_answered, answered}
 use Rattle.script_world.specs.Outcomes.{Outcome, done, faulted, Attempt, OnDisk, unwritten, written, history_machine, by_history}
-use Rattle.script_world.specs.Left.{settled_by, done_records, IsBegun, IsInDoubt, MayLeave}
+use Rattle.script_world.specs.Left.{settled_by, done_records, IsInDoubt, MayLeave}
 use Rattle.script_world.specs.Matching.{settled, CanBeOpened}
 use Rattle.script_world.specs.Transcript.{opening, world_after, world_at, attempts_of, attempts, definition_attempts, last_attempts}
 use Rattle.script_world.specs.CrashRuns.{IsSettledByRun, LeavesARun, LeavesWhatOpens}

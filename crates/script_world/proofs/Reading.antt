@@ -1,5 +1,5 @@
 -- What a session reads and has of an object is the latest generation when it attaches, and what its own commands make of that.
-use Rattle.std.specs.Prelude.{◌≡◌, ◌≢◌, ◌<◌, ◌+◌, ◌==◌, ◌++◌, ◌⊎◌, ℕ, ℤ, min, Bool, true, false, List, [], ◌∷◌, length, map, filter, Option, Some, None, Result, Ok, Err, nat_lt, slice_get, slice_set, if◌then◌else◌, refl}
+use Rattle.std.specs.Prelude.{◌≡◌, ◌≢◌, ◌<◌, ◌+◌, ◌++◌, ◌⊎◌, ℕ, ℤ, min, Bool, true, false, List, [], ◌∷◌, length, map, filter, Option, Some, None, Result, Ok, Err, nat_lt, slice_get, slice_set, if◌then◌else◌, refl}
 use Rattle.std.specs.List.{position_or_len}
 use Rattle.std.specs.Option.{option_map, ok_or}
 use Rattle.std.proofs.Common.{◌∙◌, ap, sym, subst, subst₂, inl, inr, ⊎_elim, arith, length-set}
@@ -37,7 +37,7 @@ use Rattle.script_world.specs.Transcript.{world_at}
 use Rattle.script_world.specs.Fit.{ViewsFit, SharedFits}
 use Rattle.script_world.specs.Extending.{IsExtended, IsCommitted}
 use Rattle.script_world.specs.Matching.{CanBeOpened}
-use Rattle.script_world.specs.Reading.{IsFresh, Attaches, AttachGivesLatest, is_at, read_after, staged_after, KeepsGeneration, MovesBy, Moves, OwnCommandsMove, IsShown, ShowsWhatIsRead}
+use Rattle.script_world.specs.Reading.{IsFresh, Attaches, AttachGivesLatest, is_at, read_after, staged_after, MovesBy, Moves, OwnCommandsMove, IsShown, ShowsWhatIsRead}
 use Rattle.script_world.proofs.Elements.{slice_get-set_same, slice_get-set_other}
 use Rattle.script_world.proofs.Fitting.{changes_in}
 use Rattle.script_world.proofs.FittingSessions.{length-seen, seen-latest}

@@ -1,5 +1,5 @@
 -- An attached session reads what was the latest generation when it attached, and behind that what its own lines assigned.
-use Rattle.std.specs.Prelude.{◌≡◌, ◌≢◌, ◌<◌, ◌==◌, ◌++◌, ◌⊎◌, ℕ, Bool, true, false, List, [], ◌∷◌, length, Option, Some, None, Result, Ok, Err, nat_lt, slice_get, slice_index_or, if◌then◌else◌, refl}
+use Rattle.std.specs.Prelude.{◌≡◌, ◌≢◌, ◌<◌, ◌++◌, ◌⊎◌, ℕ, Bool, true, false, List, [], ◌∷◌, length, Option, Some, None, nat_lt, slice_get, slice_index_or, if◌then◌else◌, refl}
 use Rattle.std.specs.Option.{ForSome}
 use Rattle.std.proofs.Common.{◌∙◌, ap, sym, subst, inl, inr, ⊎_elim, arith, append-nil, append_assoc}
 use Rattle.std.proofs.lemmas.Bool.{eq-eqb, ne_eqb, ltb-true, ltb-false, cases_eq}
@@ -10,24 +10,21 @@ use Rattle.mv_core.specs.declared.entry.Change.{Change}
 use Rattle.mv_core.specs.Generations.{latest_body}
 use Rattle.mv_core.specs.Workspace.{Workspace}
 use Rattle.mv_core.specs.Integers.{integers}
-use Rattle.ses_step.specs.declared.answer.Refusal.{Refusal}
 use Rattle.ses_step.specs.declared.line.Line.{Line}
 use Rattle.ses_step.specs.declared.line.Line.TheVariants as line
 use Rattle.ses_step.specs.declared.line.Command.{Command}
 use Rattle.ses_step.specs.declared.line.Command.TheVariants as command
 use Rattle.ses_step.specs.declared.session.Session.{Session}
 use Rattle.ses_step.specs.declared.session.View.{View}
-use Rattle.ses_step.specs.Answers.{no_form, not_attached}
 use Rattle.ses_step.specs.Lines.{line_form}
-use Rattle.ses_step.specs.Sessions.{new_session, located}
-use Rattle.ses_step.specs.Words.{place_of}
+use Rattle.ses_step.specs.Sessions.{new_session}
 use Rattle.script_world.specs.Worlds.{World, Turn, turn, silent, refused_as_no_form, no_session, can_define, session_place, with_session, shared_of, closed, commanded, line_answered, answered}
 use Rattle.script_world.specs.Outcomes.{Outcome, OnDisk, by_history}
 use Rattle.script_world.specs.Transcript.{opening, world_after, world_at}
-use Rattle.script_world.specs.Fit.{SharedFits, ViewsFit}
+use Rattle.script_world.specs.Fit.{SharedFits}
 use Rattle.script_world.specs.Isolation.{session_of}
 use Rattle.script_world.specs.Matching.{CanBeOpened}
-use Rattle.script_world.specs.Reading.{Attaches, read_after, Moves, read_by, read_on, IsAttachOf, IsRead, ReadItsOwn}
+use Rattle.script_world.specs.Reading.{Attaches, read_after, Moves, read_by, read_on, IsRead, ReadItsOwn}
 use Rattle.script_world.proofs.Elements.{slice_get-set_same, slice_get-set_other, slice_get-push_cases}
 use Rattle.script_world.proofs.FittingWorlds.{IsReached, HasOwnPlace, session_place-le, closed_reached, with_session_reached}
 use Rattle.script_world.proofs.Isolation.{with_session_holds}
