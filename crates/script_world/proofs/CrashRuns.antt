@@ -1,4 +1,5 @@
--- What a crash leaves of a run is what the same lines settle where the disk fails in every commit from some point on.
+-- What a crash leaves of a run is what the same lines settle with other outcomes: those so far, perhaps one that is done, and then
+-- faults alone.
 use Rattle.std.specs.Prelude.{◌≡◌, ◌≤◌, ◌++◌, ◌⊎◌, ℕ, zero, suc, Bool, true, false, List, [], ◌∷◌, length, take, drop, Option, Some, None, nat_lt, slice_get, slice_set, slice_index_or, unwrap_or, if◌then◌else◌, refl}
 use Rattle.std.specs.Option.{option_map, option_to_list}
 use Rattle.std.proofs.Common.{◌∙◌, ap, sym, subst, inl, inr, ⊎_elim, arith, append-nil, append_assoc, length-append, take_all, take-append-drop}

@@ -1,4 +1,4 @@
--- What a crash leaves of a run is what the same lines settle where the disk fails in every commit from some point on.
+-- What a crash leaves of a run is what the same lines settle with other outcomes of their commits.
 use Rattle.std.specs.Prelude.{◌≡◌, ◌⊎◌, ℕ, List}
 use Rattle.aw_codec.specs.declared.record.Decoded.{Decoded}
 use Rattle.script_world.specs.Outcomes.{Outcome}
