@@ -2,7 +2,7 @@
 -- faults alone.
 use Rattle.std.specs.Prelude.{◌≡◌, ◌≤◌, ◌++◌, ◌⊎◌, ℕ, zero, suc, Bool, true, false, List, [], ◌∷◌, length, take, drop, Option, Some, None, nat_lt, slice_get, slice_set, slice_index_or, unwrap_or, if◌then◌else◌, refl}
 use Rattle.std.specs.Option.{option_map, option_to_list}
-use Rattle.std.proofs.Common.{◌∙◌, ap, sym, subst, inl, inr, ⊎_elim, arith, append-nil, append_assoc, length-append, take_all, take-append-drop}
+use Rattle.std.proofs.Common.{◌∙◌, ap, sym, subst, inl, inr, ⊎_elim, arith, append-nil, append_assoc, length-append, length-take, take_all, take-append-drop}
 use Rattle.std.proofs.lemmas.Bool.{cases_lt}
 use Rattle.std.proofs.lemmas.Option.{none-some, same_Some, slice_get_within}
 use Rattle.std.proofs.Math.Seq.{take-append_seam}
@@ -24,7 +24,7 @@ use Rattle.ses_step.specs.Lines.{line_form}
 use Rattle.ses_step.specs.Sessions.{new_session, begun}
 use Rattle.script_world.specs.Worlds.{World, Turn, replied, turn_from, silent, refused_as_no_form, no_session, can_define, session_place, commanded, line_answered, answered}
 use Rattle.script_world.specs.Outcomes.{Outcome, done, faulted, Attempt, OnDisk, unwritten, written, history_machine, by_history}
-use Rattle.script_world.specs.Left.{settled_by, done_records, IsInDoubt, MayLeave}
+use Rattle.script_world.specs.Left.{settled_by, done_records, IsBegun, IsInDoubt, MayLeave}
 use Rattle.script_world.specs.Matching.{settled, CanBeOpened}
 use Rattle.script_world.specs.Transcript.{opening, world_after, world_at, attempts_of, attempts, definition_attempts, last_attempts}
 use Rattle.script_world.specs.CrashRuns.{IsSettledByRun, LeavesARun, LeavesWhatOpens}
@@ -218,15 +218,16 @@ frozen (l ∷ lines) o (suc n) few all =
     (λ k. freezes-write all o l lines n k (frozen lines (k.next faulted) n (omega (arith, few)) all))
     (line-shape o (line_form l))
 
--- some outcomes make these lines settle this
-record Settles (o : Open) (lines : List (List ℕ)) (those : List Decoded) : Type 0 where
+-- some outcomes make these lines settle this, and make the same first attempts
+record Settles (o : Open) (lines : List (List ℕ)) (made : List Attempt) (at : ℕ) (those : List Decoded) : Type 0 where
   coming : List Outcome
   is : (all : List Outcome) → done_records (run all o coming lines) ≡ those
+  same : (all : List Outcome) → take at (run all o coming lines) ≡ take at made
 
 -- what was done of the first attempts, and the attempt behind these too
 record Reaches (o : Open) (lines : List (List ℕ)) (made : List Attempt) (k : ℕ) : Type 0 where
-  first : Settles o lines (done_records (take k made))
-  next : (attempt : Attempt) → slice_get made k ≡ Some attempt → Settles o lines (done_records (take k made) ++ attempt.attempted ∷ [])
+  first : Settles o lines made k (done_records (take k made))
+  next : (attempt : Attempt) → slice_get made k ≡ Some attempt → Settles o lines made k (done_records (take k made) ++ attempt.attempted ∷ [])
 
 slice_get-seam : {A : Type 0} (xs : List A) (x : A) (ys : List A) → slice_get (xs ++ x ∷ ys) (length xs) ≡ Some x
 slice_get-seam [] x ys = refl
@@ -236,41 +237,55 @@ module _ (o : Open) (l : List ℕ) (lines : List (List ℕ)) where
   abbrev LineLeaves : Leaves
   LineLeaves all coming = (answered (by_history all) (world_of o coming) l).world
 
-  settles-quiet : (q : Quiet o.disk LineLeaves) (those : List Decoded) → Settles q.next lines those → Settles o (l ∷ lines) those
-  settles-quiet q those it = record { coming = it.coming; is = λ all. ap (λ w. done_records (run_from all w lines)) (q.each all it.coming) ∙ it.is all }
+  settles-quiet : (q : Quiet o.disk LineLeaves) (made : List Attempt) (at : ℕ) (those : List Decoded) → Settles q.next lines made at those → Settles o (l ∷ lines) made at those
+  settles-quiet q made at those it = record {
+    coming = it.coming;
+    is = λ all. ap (λ (w : World (OnDisk (Workspace Change))). done_records (run_from all w lines)) (q.each all it.coming) ∙ it.is all;
+    same = λ all. ap (λ (w : World (OnDisk (Workspace Change))). take at (run_from all w lines)) (q.each all it.coming) ∙ it.same all;
+  }
 
-  settles-write : (k : Writes o.disk LineLeaves) (outcome : Outcome) (those : List Decoded) → Settles (k.next outcome) lines those → Settles o (l ∷ lines) those
-  settles-write k outcome those it = record { coming = outcome ∷ it.coming; is = λ all. ap (λ w. done_records (run_from all w lines)) (k.each all (outcome ∷ it.coming)) ∙ it.is all }
+  settles-write : (k : Writes o.disk LineLeaves) (outcome : Outcome) (made : List Attempt) (at : ℕ) (those : List Decoded) → Settles (k.next outcome) lines made at those → Settles o (l ∷ lines) made at those
+  settles-write k outcome made at those it = record {
+    coming = outcome ∷ it.coming;
+    is = λ all. ap (λ (w : World (OnDisk (Workspace Change))). done_records (run_from all w lines)) (k.each all (outcome ∷ it.coming)) ∙ it.is all;
+    same = λ all. ap (λ (w : World (OnDisk (Workspace Change))). take at (run_from all w lines)) (k.each all (outcome ∷ it.coming)) ∙ it.same all;
+  }
 
   -- this attempt, and none behind it
-  settles-last : (k : Writes o.disk LineLeaves) (outcome : Outcome) → Settles o (l ∷ lines) (done_records o.disk.attempts ++ settled_by outcome k.attempted)
-  settles-last k outcome =
-      settles-write k outcome (done_records o.disk.attempts ++ settled_by outcome k.attempted) (record {
+  settles-last : (k : Writes o.disk LineLeaves) (outcome : Outcome) (made : List Attempt) (at : ℕ) → at ≡ length o.disk.attempts → take at made ≡ o.disk.attempts → Settles o (l ∷ lines) made at (done_records o.disk.attempts ++ settled_by outcome k.attempted)
+  settles-last k outcome made at here front =
+      settles-write k outcome made at (done_records o.disk.attempts ++ settled_by outcome k.attempted) (record {
         coming = failing (length lines);
         is = λ all. (frozen lines (k.next outcome) (length lines) (omega arith) all).is ∙ ap done_records (k.made outcome) ∙ done_records-push o.disk.attempts k.attempted outcome;
+        same = λ all. begins (run all (k.next outcome) (failing (length lines)) lines) (grows lines (k.next outcome) (failing (length lines)) all) ∙ sym front;
       })
+    where
+      begins : (more : List Attempt) → Grows (k.next outcome).disk.attempts more → take at more ≡ o.disk.attempts
+      begins more it =
+          ap (λ n. take n more) here ∙ ap (take (length o.disk.attempts)) (it.is ∙ ap (λ made. made ++ it.rest) (k.made outcome) ∙ append_assoc o.disk.attempts (attempt_of k.attempted outcome ∷ []) it.rest) ∙ take-append_seam o.disk.attempts (attempt_of k.attempted outcome ∷ it.rest)
 
   reaches-quiet : (q : Quiet o.disk LineLeaves) (made : List Attempt) (at : ℕ) → Reaches q.next lines made at → Reaches o (l ∷ lines) made at
   reaches-quiet q made at it = record {
-    first = settles-quiet q (done_records (take at made)) it.first;
-    next = λ attempt is. settles-quiet q (done_records (take at made) ++ attempt.attempted ∷ []) (it.next attempt is);
+    first = settles-quiet q made at (done_records (take at made)) it.first;
+    next = λ attempt is. settles-quiet q made at (done_records (take at made) ++ attempt.attempted ∷ []) (it.next attempt is);
   }
 
   reaches-write : (k : Writes o.disk LineLeaves) (outcome : Outcome) (made : List Attempt) (at : ℕ) → Reaches (k.next outcome) lines made at → Reaches o (l ∷ lines) made at
   reaches-write k outcome made at it = record {
-    first = settles-write k outcome (done_records (take at made)) it.first;
-    next = λ attempt is. settles-write k outcome (done_records (take at made) ++ attempt.attempted ∷ []) (it.next attempt is);
+    first = settles-write k outcome made at (done_records (take at made)) it.first;
+    next = λ attempt is. settles-write k outcome made at (done_records (take at made) ++ attempt.attempted ∷ []) (it.next attempt is);
   }
 
   -- at the attempt of this line
   reaches-here : (k : Writes o.disk LineLeaves) (outcome : Outcome) (made rest : List Attempt) → made ≡ o.disk.attempts ++ attempt_of k.attempted outcome ∷ rest → (at : ℕ) → at ≡ length o.disk.attempts → Reaches o (l ∷ lines) made at
   reaches-here k outcome made rest is at here = record {
-    first = subst (Settles o (l ∷ lines)) (append-nil (done_records o.disk.attempts) ∙ sym front) (settles-last k faulted);
-    next = λ attempt found. subst (Settles o (l ∷ lines)) (ap (λ those. those ++ k.attempted ∷ []) (sym front) ∙ ap (λ (it : Attempt). done_records (take at made) ++ it.attempted ∷ []) (sym (same attempt found))) (settles-last k done);
+    first = subst (Settles o (l ∷ lines) made at) (append-nil (done_records o.disk.attempts) ∙ sym (ap done_records front)) (settles-last k faulted made at here front);
+    next = λ attempt found. subst (Settles o (l ∷ lines) made at) (ap (λ those. those ++ k.attempted ∷ []) (sym (ap done_records front)) ∙ ap (λ (it : Attempt). done_records (take at made) ++ it.attempted ∷ []) (sym (same attempt found))) (settles-last k done made at here front);
   }
     where
-      front : done_records (take at made) ≡ done_records o.disk.attempts
-      front = ap done_records (ap (λ n. take n made) here ∙ ap (take (length o.disk.attempts)) is ∙ take-append_seam o.disk.attempts (attempt_of k.attempted outcome ∷ rest))
+      front : take at made ≡ o.disk.attempts
+      front =
+          ap (λ n. take n made) here ∙ ap (take (length o.disk.attempts)) is ∙ take-append_seam o.disk.attempts (attempt_of k.attempted outcome ∷ rest)
 
       same : (attempt : Attempt) → slice_get made at ≡ Some attempt → attempt ≡ attempt_of k.attempted outcome
       same attempt found =
@@ -278,7 +293,7 @@ module _ (o : Open) (l : List ℕ) (lines : List (List ℕ)) where
 
 reaches : (lines : List (List ℕ)) (o : Open) (coming all : List Outcome) (at : ℕ) → length o.disk.attempts ≤ at → Reaches o lines (run all o coming lines) at
 reaches [] o coming all at past = record {
-  first = record { coming = []; is = λ every. ap done_records (sym (take_all at o.disk.attempts past)) };
+  first = record { coming = []; is = λ every. ap done_records (sym (take_all at o.disk.attempts past)); same = λ every. refl };
   next = λ attempt found. absurd (omega (arith, slice_get_within o.disk.attempts at attempt found, past));
 }
 reaches (l ∷ lines) o coming all at past =
@@ -294,21 +309,28 @@ reaches (l ∷ lines) o coming all at past =
 
 -- ---- worlds as they are opened
 
--- a list that is settled with some outcomes, or nothing
-abbrev IsRunFrom : (List Outcome → World (OnDisk (Workspace Change))) → List (List ℕ) → List Decoded → Type 0
-IsRunFrom start lines those = (those ≡ []) ⊎ ((outcomes : List Outcome) × (those ≡ done_records (run_from outcomes (start outcomes) lines)))
+-- a list that is settled with some outcomes, which make the same first attempts
+record SettledFrom (start : List Outcome → World (OnDisk (Workspace Change))) (lines : List (List ℕ)) (made : List Attempt) (at : ℕ) (those : List Decoded) : Type 0 where
+  outcomes : List Outcome
+  is : those ≡ done_records (run_from outcomes (start outcomes) lines)
+  same : take at (run_from outcomes (start outcomes) lines) ≡ take at made
 
-record ReachesAll (P : List Decoded → Type 0) (made : List Attempt) : Type 0 where
-  first : (at : ℕ) → P (done_records (take at made))
-  next : (at : ℕ) (attempt : Attempt) → slice_get made at ≡ Some attempt → P (done_records (take at made) ++ attempt.attempted ∷ [])
+-- such a list, or nothing
+abbrev IsRunFrom : (List Outcome → World (OnDisk (Workspace Change))) → List (List ℕ) → List Attempt → ℕ → List Decoded → Type 0
+IsRunFrom start lines made at those = (those ≡ []) ⊎ SettledFrom start lines made at those
 
-settles-run : (o : Open) (lines : List (List ℕ)) (those : List Decoded) → Settles o lines those → IsRunFrom (world_of o) lines those
-settles-run o lines those it = inr (it.coming, sym (it.is it.coming))
+record ReachesAll (P : List Attempt → ℕ → List Decoded → Type 0) (made : List Attempt) : Type 0 where
+  first : (at : ℕ) → P made at (done_records (take at made))
+  next : (at : ℕ) (attempt : Attempt) → slice_get made at ≡ Some attempt → P made at (done_records (take at made) ++ attempt.attempted ∷ [])
+
+settles-run : (o : Open) (lines : List (List ℕ)) (made : List Attempt) (at : ℕ) (those : List Decoded) → Settles o lines made at those → IsRunFrom (world_of o) lines made at those
+settles-run o lines made at those it =
+    inr (record { outcomes = it.coming; is = sym (it.is it.coming); same = it.same it.coming })
 
 from_open : (o : Open) → o.disk.attempts ≡ [] → (lines : List (List ℕ)) (coming all : List Outcome) → ReachesAll (IsRunFrom (world_of o) lines) (run all o coming lines)
 from_open o fresh lines coming all = record {
-  first = λ at. settles-run o lines (done_records (take at (run all o coming lines))) (reaches lines o coming all at (omega (arith, ap length fresh))).first;
-  next = λ at attempt is. settles-run o lines (done_records (take at (run all o coming lines)) ++ attempt.attempted ∷ []) ((reaches lines o coming all at (omega (arith, ap length fresh))).next attempt is);
+  first = λ at. settles-run o lines (run all o coming lines) at (done_records (take at (run all o coming lines))) (reaches lines o coming all at (omega (arith, ap length fresh))).first;
+  next = λ at attempt is. settles-run o lines (run all o coming lines) at (done_records (take at (run all o coming lines)) ++ attempt.attempted ∷ []) ((reaches lines o coming all at (omega (arith, ap length fresh))).next attempt is);
 }
 
 abbrev shut : List (List ℕ) → List (List ℕ) → List Session → World (OnDisk (Workspace Change))
@@ -323,22 +345,27 @@ module _ (definitions names : List (List ℕ)) (sessions : List Session) (l : Li
   stays_shut : (after : List (List ℕ)) → ((every : List Outcome) → (answered (by_history every) (shut definitions names sessions) l).world ≡ shut after names sessions) → ShutReaches after names sessions all lines → ShutReaches definitions names sessions all (l ∷ lines)
   stays_shut after same it =
       subst (ReachesAll (IsRunFrom (λ _. shut definitions names sessions) (l ∷ lines))) (sym (ap (λ w. run_from all w lines) (same all))) (record {
-        first = λ at. later (done_records (take at made)) (it.first at);
-        next = λ at attempt is. later (done_records (take at made) ++ attempt.attempted ∷ []) (it.next at attempt is);
+        first = λ at. later at (done_records (take at made)) (it.first at);
+        next = λ at attempt is. later at (done_records (take at made) ++ attempt.attempted ∷ []) (it.next at attempt is);
       })
     where
       made : List Attempt
       made = run_from all (shut after names sessions) lines
 
-      later : (those : List Decoded) → IsRunFrom (λ _. shut after names sessions) lines those → IsRunFrom (λ _. shut definitions names sessions) (l ∷ lines) those
-      later those run = ⊎_elim inl (λ it. inr (it.0, it.1 ∙ sym (ap (λ w. done_records (run_from it.0 w lines)) (same it.0)))) run
+      later : (at : ℕ) (those : List Decoded) → IsRunFrom (λ _. shut after names sessions) lines made at those → IsRunFrom (λ _. shut definitions names sessions) (l ∷ lines) made at those
+      later at those how =
+          ⊎_elim inl (λ it. inr (record {
+            outcomes = it.outcomes;
+            is = it.is ∙ sym (ap (λ (w : World (OnDisk (Workspace Change))). done_records (run_from it.outcomes w lines)) (same it.outcomes));
+            same = ap (λ (w : World (OnDisk (Workspace Change))). take at (run_from it.outcomes w lines)) (same it.outcomes) ∙ it.same;
+          })) how
 
   -- the first session line opens it
   opens_here : (name : List ℕ) (command : Option Command) → line_form l ≡ line.Session name command → ShutReaches definitions names sessions all (l ∷ lines)
   opens_here name command form = subst (ReachesAll P) (sym (same all)) (record { first = first; next = next })
     where
-      P : List Decoded → Type 0
-      P those = IsRunFrom (λ _. shut definitions names sessions) (l ∷ lines) those
+      P : List Attempt → ℕ → List Decoded → Type 0
+      P made at those = IsRunFrom (λ _. shut definitions names sessions) (l ∷ lines) made at those
 
       defined : Attempt
       defined = attempt_of (Definitions definitions) done
@@ -353,31 +380,33 @@ module _ (definitions names : List (List ℕ)) (sessions : List Session) (l : Li
       same every =
           ap (λ (it : Line). run_from every (line_answered (by_history every) (shut definitions names sessions) it).world lines) form ∙ sym (ap (λ (it : Line). run_from every (line_answered (by_history every) (world_of o every) it).world lines) form)
 
-      by_run : (those : List Decoded) → Settles o (l ∷ lines) those → P those
-      by_run those it = inr (it.coming, sym (ap done_records (same it.coming) ∙ it.is it.coming))
+      by_run : (at : ℕ) (those : List Decoded) → Settles o (l ∷ lines) made at those → P made at those
+      by_run at those it =
+          inr (record { outcomes = it.coming; is = sym (ap done_records (same it.coming) ∙ it.is it.coming); same = ap (take at) (same it.coming) ∙ it.same it.coming })
 
-      first : (at : ℕ) → P (done_records (take at made))
+      first : (at : ℕ) → P made at (done_records (take at made))
       first zero = inl refl
-      first (suc at) = by_run (done_records (take (suc at) made)) (reaches (l ∷ lines) o all all (suc at) (omega arith)).first
+      first (suc at) = by_run (suc at) (done_records (take (suc at) made)) (reaches (l ∷ lines) o all all (suc at) (omega arith)).first
 
-      alone : P (Definitions definitions ∷ [])
-      alone = by_run (Definitions definitions ∷ []) (record {
+      alone : P made 0 (Definitions definitions ∷ [])
+      alone = by_run 0 (Definitions definitions ∷ []) (record {
         coming = failing (length (l ∷ lines));
         is = λ every. (frozen (l ∷ lines) o (length (l ∷ lines)) (omega arith) every).is;
+        same = λ every. refl;
       })
 
       begins : (attempt : Attempt) → slice_get made 0 ≡ Some attempt → attempt ≡ defined
       begins attempt is = same_Some attempt defined (sym is ∙ ap (λ list. slice_get list 0) (grows (l ∷ lines) o all all).is)
 
-      next : (at : ℕ) (attempt : Attempt) → slice_get made at ≡ Some attempt → P (done_records (take at made) ++ attempt.attempted ∷ [])
-      next zero attempt is = subst (λ (it : Attempt). P (it.attempted ∷ [])) (sym (begins attempt is)) alone
+      next : (at : ℕ) (attempt : Attempt) → slice_get made at ≡ Some attempt → P made at (done_records (take at made) ++ attempt.attempted ∷ [])
+      next zero attempt is = subst (λ (it : Attempt). P made 0 (it.attempted ∷ [])) (sym (begins attempt is)) alone
       next (suc at) attempt is =
-          by_run (done_records (take (suc at) made) ++ attempt.attempted ∷ []) ((reaches (l ∷ lines) o all all (suc at) (omega arith)).next attempt is)
+          by_run (suc at) (done_records (take (suc at) made) ++ attempt.attempted ∷ []) ((reaches (l ∷ lines) o all all (suc at) (omega arith)).next attempt is)
 
 from_shut : (lines : List (List ℕ)) (definitions names : List (List ℕ)) (sessions : List Session) (all : List Outcome) → ShutReaches definitions names sessions all lines
 from_shut [] definitions names sessions all = record { first = nothing; next = λ at attempt is. absurd (none-some attempt is) }
   where
-    nothing : (at : ℕ) → IsRunFrom (λ _. shut definitions names sessions) [] (done_records (take at []))
+    nothing : (at : ℕ) → IsRunFrom (λ _. shut definitions names sessions) [] [] at (done_records (take at []))
     nothing zero = inl refl
     nothing (suc at) = inl refl
 from_shut (l ∷ lines) definitions names sessions all = by_form (line_form l) refl (λ after. from_shut lines after names sessions all)
@@ -403,18 +432,28 @@ from_shut (l ∷ lines) definitions names sessions all = by_form (line_form l) r
 -- ---- what may be left
 
 -- what is left behind the records that were there
-record LeftSo (P : List Decoded → Type 0) (records left : List Decoded) : Type 0 where
+record LeftSo (P : ℕ → List Decoded → Type 0) (made : List Attempt) (records : List Decoded) (ended : ℕ) (left : List Decoded) : Type 0 where
   those : List Decoded
   is : left ≡ records ++ those
-  holds : P those
+  at : ℕ
+  within : at ≤ ended
+  acknowledged : done_records (take at made) ≡ done_records (take ended made)
+  holds : P at those
 
-module _ (P : List Decoded → Type 0) (made : List Attempt) (all : ReachesAll P made) (records : List Decoded) (ended : ℕ) (left : List Decoded) where
+module _ (P : List Attempt → ℕ → List Decoded → Type 0) (made : List Attempt) (all : ReachesAll P made) (records : List Decoded) (ended : ℕ) (left : List Decoded) where
   abbrev done_by : List Decoded
   done_by = done_records (take ended made)
 
   -- a faulted attempt behind which none was done is as the last one
-  doubt-holds : (r : Decoded) → IsInDoubt (take ended made) r → P (done_by ++ r ∷ [])
-  doubt-holds r doubt = subst (λ those. P (those ++ r ∷ [])) same (all.next (length doubt.before) doubted (ap (λ list. slice_get list (length doubt.before)) whole ∙ slice_get-seam doubt.before doubted rest))
+  doubt-holds : (r : Decoded) → left ≡ records ++ (done_by ++ r ∷ []) → IsInDoubt (take ended made) r → LeftSo (P made) made records ended left
+  doubt-holds r is doubt = record {
+    those = done_by ++ r ∷ [];
+    is = is;
+    at = length doubt.before;
+    within = omega (arith, ap length doubt.split, length-append doubt.before (doubted ∷ doubt.after), length-take ended made);
+    acknowledged = same;
+    holds = subst (λ those. P made (length doubt.before) (those ++ r ∷ [])) same (all.next (length doubt.before) doubted (ap (λ list. slice_get list (length doubt.before)) whole ∙ slice_get-seam doubt.before doubted rest));
+  }
     where
       doubted : Attempt
       doubted = attempt_of r faulted
@@ -430,25 +469,52 @@ module _ (P : List Decoded → Type 0) (made : List Attempt) (all : ReachesAll P
       same =
           ap done_records (ap (take (length doubt.before)) whole ∙ take-append_seam doubt.before (doubted ∷ rest)) ∙ sym (ap done_records doubt.split ∙ done_records-append doubt.before (doubted ∷ doubt.after) ∙ ap (λ last. done_records doubt.before ++ last) doubt.none_done ∙ append-nil (done_records doubt.before))
 
-  left_so : MayLeave ended records made left → LeftSo P records left
+  begun-holds : (r : Decoded) → left ≡ records ++ (done_by ++ r ∷ []) → IsBegun (slice_get made ended) r → LeftSo (P made) made records ended left
+  begun-holds r is begun = record {
+    those = done_by ++ r ∷ [];
+    is = is;
+    at = ended;
+    within = omega arith;
+    acknowledged = refl;
+    holds = subst (λ it. P made ended (done_by ++ it ∷ [])) (sym begun.is) (all.next ended begun.attempt begun.comes);
+  }
+
+  left_so : MayLeave ended records made left → LeftSo (P made) made records ended left
   left_so may = by_more may.more refl
     where
-      by_more : (more : Option Decoded) → may.more ≡ more → LeftSo P records left
+      by_more : (more : Option Decoded) → may.more ≡ more → LeftSo (P made) made records ended left
       by_more None is = record {
         those = done_by;
         is = may.are ∙ ap (λ more. records ++ done_by ++ option_to_list more) is ∙ append-nil (records ++ done_by);
+        at = ended;
+        within = omega arith;
+        acknowledged = refl;
         holds = all.first ended;
       }
-      by_more (Some r) is = record {
-        those = done_by ++ r ∷ [];
-        is = may.are ∙ ap (λ more. records ++ done_by ++ option_to_list more) is ∙ append_assoc records done_by (r ∷ []);
-        holds = ⊎_elim (λ begun. subst (λ it. P (done_by ++ it ∷ [])) (sym begun.is) (all.next ended begun.attempt begun.comes)) (doubt-holds r) (may.one r is);
-      }
+      by_more (Some r) is =
+          let are : left ≡ records ++ (done_by ++ r ∷ []) = may.are ∙ ap (λ more. records ++ done_by ++ option_to_list more) is ∙ append_assoc records done_by (r ∷ []) in
+          ⊎_elim (begun-holds r are) (doubt-holds r are) (may.one r is)
+
+-- nothing behind the records, or what a run settles
+run-settles : (records : List Decoded) (coming : List Outcome) (lines : List (List ℕ)) (ended : ℕ) (left : List Decoded) → LeftSo (IsRunFrom (opening records) lines (attempts records coming lines)) (attempts records coming lines) records ended left → IsSettledByRun records coming lines ended left
+run-settles records coming lines ended left so = ⊎_elim nothing settles so.holds
+  where
+    nothing : so.those ≡ [] → IsSettledByRun records coming lines ended left
+    nothing none = inl (so.is ∙ ap (λ (it : List Decoded). records ++ it) none ∙ append-nil records)
+
+    settles : SettledFrom (opening records) lines (attempts records coming lines) so.at so.those → IsSettledByRun records coming lines ended left
+    settles it = inr (record {
+      outcomes = it.outcomes;
+      first = so.at;
+      within = so.within;
+      acknowledged = so.acknowledged;
+      same = it.same;
+      settles = so.is ∙ ap (λ (it : List Decoded). records ++ it) it.is;
+    })
 
 pub leaves_a_run : (records : List Decoded) (coming : List Outcome) (lines : List (List ℕ)) → LeavesARun records coming lines
 leaves_a_run records coming lines ended left may =
-    let so = left_so (IsRunFrom (opening records) lines) (attempts records coming lines) (by_names (names_of records)) records ended left may in
-    ⊎_elim (λ none. inl (so.is ∙ ap (λ those. records ++ those) none ∙ append-nil records)) (λ it. inr (it.0, so.is ∙ ap (λ those. records ++ those) it.1)) so.holds
+    run-settles records coming lines ended left (left_so (IsRunFrom (opening records) lines) (attempts records coming lines) (by_names (names_of records)) records ended left may)
   where
     start : Option (List (List ℕ)) → List Outcome → World (OnDisk (Workspace Change))
     start names those = record {
@@ -468,7 +534,7 @@ leaves_a_run records coming lines ended left may =
 abbrev IsDefined : List (List ℕ) → List Decoded → Type 0
 IsDefined definitions those = (those ≡ []) ⊎ (those ≡ done_records (definition_attempts definitions))
 
-defined_reaches : (definitions : List (List ℕ)) → ReachesAll (IsDefined definitions) (definition_attempts definitions)
+defined_reaches : (definitions : List (List ℕ)) → ReachesAll (λ _ _. IsDefined definitions) (definition_attempts definitions)
 defined_reaches [] = record { first = nothing; next = λ at attempt is. absurd (none-some attempt is) }
   where
     nothing : (at : ℕ) → IsDefined [] (done_records (take at []))
@@ -496,7 +562,7 @@ behind_opens definitions records left those can all is how =
 
 defined_opens : (definitions : List (List ℕ)) (records : List Decoded) (ended : ℕ) (left : List Decoded) → CanBeOpened records → CanBeOpened (settled records (definition_attempts definitions)) → MayLeave ended records (definition_attempts definitions) left → CanBeOpened left
 defined_opens definitions records ended left can all may =
-    let so = left_so (IsDefined definitions) (definition_attempts definitions) (defined_reaches definitions) records ended left may in
+    let so = left_so (λ _ _. IsDefined definitions) (definition_attempts definitions) (defined_reaches definitions) records ended left may in
     behind_opens definitions records left so.those can all so.is so.holds
 
 pub leaves_what_opens : (records : List Decoded) (coming : List Outcome) (lines : List (List ℕ)) → CanBeOpened records → LeavesWhatOpens records coming lines
@@ -505,9 +571,9 @@ leaves_what_opens records coming lines can ended left = by_shared w.shared refl
     w : World (OnDisk (Workspace Change))
     w = world_at records coming lines
 
-    run_opens : IsSettledByRun records lines left → CanBeOpened left
+    run_opens : IsSettledByRun records coming lines ended left → CanBeOpened left
     run_opens how =
-        ⊎_elim (λ same. subst CanBeOpened (sym same) can) (λ it. subst CanBeOpened (sym it.1) (always_match records it.0 lines can).can_be_opened) how
+        ⊎_elim (λ same. subst CanBeOpened (sym same) can) (λ it. subst CanBeOpened (sym it.settles) (always_match records it.outcomes lines can).can_be_opened) how
 
     by_shared : (shared : Option (OnDisk (Workspace Change))) → w.shared ≡ shared → MayLeave ended records (last_attempts w.definitions shared) left → CanBeOpened left
     by_shared (Some disk) is may =

@@ -121,9 +121,10 @@ pub fn acknowledged_records_are_left()
 {}
 
 /// What a crash at any moment leaves of these lines is the records with which the disk was opened, or
-/// what the same lines settle with other outcomes of their commits. So every law on the commits of a
-/// run holds of what a crash leaves. It can be opened, also where the definitions alone were to be
-/// written. See docs/SHARING.md, 'What is proved'.
+/// what the same lines settle with other outcomes of their commits, in a run that makes the same first
+/// attempts, among which are all that were done by then. So every law on the commits of a run holds of
+/// what a crash leaves. It can be opened, also where the definitions alone were to be written. See
+/// docs/SHARING.md, 'What is proved'.
 pub fn crashes_leave_what_a_run_settles()
     ensures settled { (records : List Decoded) (coming : List Outcome) (lines : List (List ℕ)) → LeavesARun records coming lines }
     ensures opens { (records : List Decoded) (coming : List Outcome) (lines : List (List ℕ)) → CanBeOpened records → LeavesWhatOpens records coming lines }
