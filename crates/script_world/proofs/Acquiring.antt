@@ -31,7 +31,7 @@ use Rattle.script_world.specs.Fit.{ViewsFit, SharedFits}
 use Rattle.script_world.specs.Matching.{CanBeOpened}
 use Rattle.script_world.specs.Acquiring.{AnswersAcquire, AcquiresAreAnswered}
 use Rattle.script_world.proofs.FittingSessions.{slice_get-standing}
-use Rattle.script_world.proofs.Opening.{always_reached}
+use Rattle.script_world.proofs.Opening.{fits_at, found_at_number}
 use Rattle.script_world.proofs.Reading.{place_of-within}
 
 module _ (coming : List Outcome) (definitions names : List (List ℕ)) (sessions : List Session) (disk : OnDisk (Workspace Change)) (s : Session) (fits : SharedFits definitions sessions disk.state) (own_place : slice_get sessions s.who ≡ Some s) (views : List View) (attached : s.views ≡ Some views) where
@@ -90,5 +90,4 @@ module _ (records : List Decoded) (coming : List Outcome) (lines : List (List �
 
   pub acquires_are_answered : AcquiresAreAnswered coming (world_at records coming lines)
   acquires_are_answered disk who session views is found attached =
-      let fits = (always_reached records coming lines can).fits.shared disk is in
-      acquire_answered coming reached.definitions reached.names reached.sessions disk session fits (ap (slice_get reached.sessions) (fits.each who session found).number ∙ found) views attached
+      acquire_answered coming reached.definitions reached.names reached.sessions disk session (fits_at records coming lines can disk is) (found_at_number records coming lines can disk who session is found) views attached

@@ -1,19 +1,16 @@
 -- On a disk too a commit extends the latest generations, unless it is refused, and a grant is of the latest.
-use Rattle.std.specs.Prelude.{◌≡◌, ℕ, true, false, List, Some, Result, Ok, Err, slice_get, refl}
+use Rattle.std.specs.Prelude.{◌≡◌, ℕ, true, false, List, Some, slice_get, refl}
 use Rattle.std.proofs.Common.{◌∙◌, ap, sym, subst, inl, inr, ⊎_elim}
 use Rattle.std.proofs.lemmas.Bool.{true≢false}
 use Rattle.aw_codec.specs.declared.record.Decoded.{Decoded}
 use Rattle.mv_core.specs.declared.entry.Change.{Change}
 use Rattle.mv_core.specs.declared.entry.Entry.{Entry}
-use Rattle.mv_core.specs.declared.entry.Entry.TheVariants as entry
 use Rattle.mv_core.specs.Integers.{integers}
 use Rattle.mv_core.specs.SharedStep.{reply_of}
 use Rattle.mv_core.specs.Workspace.{Workspace, standing}
-use Rattle.ses_step.specs.declared.answer.Answer.TheVariants.{Done, Refused}
-use Rattle.ses_step.specs.declared.answer.Refusal.{Refusal}
+use Rattle.ses_step.specs.declared.answer.Answer.TheVariants.{Done}
 use Rattle.ses_step.specs.declared.line.Command.TheVariants as command
-use Rattle.ses_step.specs.declared.session.Begun.{Begun}
-use Rattle.ses_step.specs.declared.session.Begun.TheVariants.{Said, Ask}
+use Rattle.ses_step.specs.declared.session.Begun.TheVariants.{Ask}
 use Rattle.ses_step.specs.declared.session.Session.{Session}
 use Rattle.ses_step.specs.declared.session.View.{View}
 use Rattle.ses_step.specs.Answers.{is_refusal}
@@ -24,20 +21,10 @@ use Rattle.script_world.specs.Transcript.{world_at}
 use Rattle.script_world.specs.Fit.{SharedFits}
 use Rattle.script_world.specs.Matching.{CanBeOpened}
 use Rattle.script_world.specs.Extending.{Commits, IsGranted, CommitsExtend, GrantsHaveLatest}
-use Rattle.script_world.proofs.DiskTurns.{unwritten_turn, done_turn, faulted_turn, Writes, turn-cases}
+use Rattle.script_world.proofs.DiskTurns.{unwritten_turn, done_turn, faulted_turn, Writes, turn-cases, acquire-unwritten}
 use Rattle.script_world.proofs.RecordedTurns.{writing-grants}
 use Rattle.script_world.proofs.Extending.{PlainCommits, commits, acquires}
-use Rattle.script_world.proofs.Opening.{always_reached}
-
--- an ACQUIRE writes no record
-acquire-unwritten : (coming : List Outcome) (definitions names : List (List ℕ)) (disk : OnDisk (Workspace Change)) (s : Session) (name : List ℕ) → turn (by_history coming) definitions names disk s (command.Acquire name) ≡ unwritten_turn disk (turn history_machine definitions names disk.state s (command.Acquire name))
-acquire-unwritten coming definitions names disk s name = by_found (located definitions s name)
-  where
-    by_found : (found : Result View Refusal) →
-        let asked : Begun × Session = elim found [ Err refusal ↦ (Said (Refused refusal), s) | Ok view ↦ (Ask (entry.Acquire s.who view.object view.number), s) ] in
-        turn_from (by_history coming) definitions names disk asked ≡ unwritten_turn disk (turn_from history_machine definitions names disk.state asked)
-    by_found (Err refusal) = refl
-    by_found (Ok view) = refl
+use Rattle.script_world.proofs.Opening.{fits_at, found_at_number}
 
 module _ (coming : List Outcome) (definitions names : List (List ℕ)) (sessions : List Session) (disk : OnDisk (Workspace Change)) (s : Session) (fits : SharedFits definitions sessions disk.state) (own_place : slice_get sessions s.who ≡ Some s) (views : List View) (attached : s.views ≡ Some views) where
   abbrev plain : Turn (Workspace Change)
@@ -74,7 +61,7 @@ module _ (coming : List Outcome) (definitions names : List (List ℕ)) (sessions
   acquires_on_disk : (name : List ℕ) → let t = turn (by_history coming) definitions names disk s (command.Acquire name) in t.answer ≡ Done → IsGranted definitions disk.state t.shared.state s views name
   acquires_on_disk name =
       let P : Turn (OnDisk (Workspace Change)) → Type 0 = λ t. t.answer ≡ Done → IsGranted definitions disk.state t.shared.state s views name in
-      subst P (sym (acquire-unwritten coming definitions names disk s name)) (acquires definitions names sessions disk.state s fits own_place views attached name)
+      subst P (sym (acquire-unwritten coming definitions names disk s (located definitions s name))) (acquires definitions names sessions disk.state s fits own_place views attached name)
 
 -- ---- after any lines
 
@@ -82,16 +69,10 @@ module _ (records : List Decoded) (coming : List Outcome) (lines : List (List �
   abbrev reached : World (OnDisk (Workspace Change))
   reached = world_at records coming lines
 
-  all_fit : (disk : OnDisk (Workspace Change)) → reached.shared ≡ Some disk → SharedFits reached.definitions reached.sessions disk.state
-  all_fit disk is = (always_reached records coming lines can).fits.shared disk is
-
-  found_by_number : (disk : OnDisk (Workspace Change)) (who : ℕ) (session : Session) → reached.shared ≡ Some disk → slice_get reached.sessions who ≡ Some session → slice_get reached.sessions session.who ≡ Some session
-  found_by_number disk who session is found = ap (slice_get reached.sessions) ((all_fit disk is).each who session found).number ∙ found
-
   pub commits_extend : CommitsExtend coming (world_at records coming lines)
   commits_extend disk who session views is found attached =
-      commits_on_disk coming reached.definitions reached.names reached.sessions disk session (all_fit disk is) (found_by_number disk who session is found) views attached
+      commits_on_disk coming reached.definitions reached.names reached.sessions disk session (fits_at records coming lines can disk is) (found_at_number records coming lines can disk who session is found) views attached
 
   pub grants_have_latest : GrantsHaveLatest coming (world_at records coming lines)
   grants_have_latest disk who session views is found attached =
-      acquires_on_disk coming reached.definitions reached.names reached.sessions disk session (all_fit disk is) (found_by_number disk who session is found) views attached
+      acquires_on_disk coming reached.definitions reached.names reached.sessions disk session (fits_at records coming lines can disk is) (found_at_number records coming lines can disk who session is found) views attached

@@ -6,6 +6,7 @@ use Rattle.mv_core.specs.declared.entry.Entry.{Entry}
 use Rattle.mv_core.specs.declared.entry.Entry.TheVariants as entry
 use Rattle.mv_core.specs.declared.entry.Reply.{Reply}
 use Rattle.mv_core.specs.SharedStep.{writes}
+use Rattle.mv_core.specs.Workspace.{Workspace}
 use Rattle.aw_store.specs.Stores.{record_of}
 use Rattle.ses_step.specs.declared.answer.Answer.TheVariants.{Done, Shown, Refused}
 use Rattle.ses_step.specs.declared.answer.Refusal.{Refusal}
@@ -19,7 +20,7 @@ use Rattle.aw_cell.specs.declared.cell.Cell.TheVariants.{Int}
 use Rattle.ses_step.specs.Answers.{disk_fault, not_attached, already_attached}
 use Rattle.ses_step.specs.Sessions.{begun, located, with_view, updated, commit_asked, is_staged, change_of_view}
 use Rattle.script_world.specs.Worlds.{Machine, Turn, replied, turn_from, turn}
-use Rattle.script_world.specs.Outcomes.{Outcome, done, faulted, OnDisk, unwritten, written, on_disk}
+use Rattle.script_world.specs.Outcomes.{Outcome, done, faulted, OnDisk, unwritten, written, on_disk, history_machine, by_history}
 
 -- ---- the three turns
 
@@ -146,3 +147,30 @@ module _ {S : Type 0} (machine : Machine S) (all : List Outcome) (definitions na
   turn-cases unwritten_case done_case faulted_case =
       let b = begun definitions session command in
       turn_from-cases machine all definitions names disk P b.0 b.1 (λ none. unwritten_case (λ asked is. record { asks = is; is = none asked is })) (λ asked coming is writing. done_case asked coming (record { asks = is; is = writing })) (λ asked coming is writing. subst (λ it. P (faulted_turn disk it asked coming)) (sym (asked-same definitions session command asked is)) (faulted_case asked coming (record { asks = is; is = writing })))
+
+-- ---- the machine over commits and owners
+
+-- a command that isn't COMMIT writes no record
+module _ (coming : List Outcome) (definitions names : List (List ℕ)) (disk : OnDisk (Workspace Change)) (s : Session) where
+  abbrev IsUnwritten : Begun × Session → Type 0
+  IsUnwritten b = turn_from (by_history coming) definitions names disk b ≡ unwritten_turn disk (turn_from history_machine definitions names disk.state b)
+
+  pub attach-unwritten : (views : Option (List View)) → IsUnwritten (elim views [ None ↦ (Ask (entry.Attach s.who), s) | Some views ↦ (Said (Refused already_attached), s) ])
+  attach-unwritten None = refl
+  attach-unwritten (Some views) = refl
+
+  pub acquire-unwritten : (found : Result View Refusal) → IsUnwritten (elim found [ Err refusal ↦ (Said (Refused refusal), s) | Ok view ↦ (Ask (entry.Acquire s.who view.object view.number), s) ])
+  acquire-unwritten (Err refusal) = refl
+  acquire-unwritten (Ok view) = refl
+
+  pub assign-unwritten : (value : ℤ) (found : Result View Refusal) → IsUnwritten (elim found [ Err refusal ↦ (Said (Refused refusal), s) | Ok view ↦ (Said Done, with_view s (record view { private = Int value })) ])
+  assign-unwritten value (Err refusal) = refl
+  assign-unwritten value (Ok view) = refl
+
+  pub update-unwritten : (views : Option (List View)) → IsUnwritten (elim views [ None ↦ (Said (Refused not_attached), s) | Some views ↦ (Said Done, record s { views = Some (map updated views) }) ])
+  update-unwritten None = refl
+  update-unwritten (Some views) = refl
+
+  pub show-unwritten : (found : Result View Refusal) → IsUnwritten (elim found [ Err refusal ↦ (Said (Refused refusal), s) | Ok view ↦ (Said (Shown view.private), s) ])
+  show-unwritten (Err refusal) = refl
+  show-unwritten (Ok view) = refl

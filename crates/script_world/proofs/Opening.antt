@@ -1,5 +1,5 @@
 -- The world in which a disk is opened whose records can be replayed.
-use Rattle.std.specs.Prelude.{◌≡◌, ◌&&◌, ◌==◌, ℕ, Bool, true, false, cond, List, [], ◌∷◌, length, map, fold, Option, Some, None, unwrap_or, nat_le, nat_lt, refl}
+use Rattle.std.specs.Prelude.{◌≡◌, ◌&&◌, ◌==◌, ℕ, Bool, true, false, cond, List, [], ◌∷◌, length, map, fold, Option, Some, None, unwrap_or, nat_le, nat_lt, slice_get, refl}
 use Rattle.std.specs.Option.{ForSome, option_to_list}
 use Rattle.std.specs.List.{list_all}
 use Rattle.std.proofs.Common.{◌∙◌, ap, ap₂, sym, subst, arith, append-nil}
@@ -20,6 +20,8 @@ use Rattle.aw_cell.specs.Cell.{is_integer_cell}
 use Rattle.mv_core.specs.Integers.{integers}
 use Rattle.aw_store.specs.Replay.{is_commit_among, can_replay, names_of, commits_of, change_from, workspace_of}
 use Rattle.aw_store.specs.Images.{AreRecords}
+use Rattle.ses_step.specs.declared.session.Session.{Session}
+use Rattle.script_world.specs.Worlds.{World}
 use Rattle.script_world.specs.Outcomes.{Outcome, OnDisk}
 use Rattle.script_world.specs.Transcript.{opening, world_at, attempts_of, last_attempts}
 use Rattle.script_world.specs.Fit.{is_value, SharedFits}
@@ -113,6 +115,18 @@ opening_reached (Definitions names ∷ records) coming are can = record {
 pub always_reached : (records : List Decoded) (coming : List Outcome) (lines : List (List ℕ)) → CanBeOpened records → IsReached records (world_at records coming lines)
 always_reached records coming lines can =
     world_after_reached coming records (opening records coming) lines (opening_reached records coming can.spellings can.replayable)
+
+-- the sessions fit, and each stands at its number
+module _ (records : List Decoded) (coming : List Outcome) (lines : List (List ℕ)) (can : CanBeOpened records) where
+  abbrev reached : World (OnDisk (Workspace Change))
+  reached = world_at records coming lines
+
+  pub fits_at : (disk : OnDisk (Workspace Change)) → reached.shared ≡ Some disk → SharedFits reached.definitions reached.sessions disk.state
+  fits_at disk is = (always_reached records coming lines can).fits.shared disk is
+
+  pub found_at_number : (disk : OnDisk (Workspace Change)) (who : ℕ) (session : Session) → reached.shared ≡ Some disk → slice_get reached.sessions who ≡ Some session → slice_get reached.sessions session.who ≡ Some session
+  found_at_number disk who session is found =
+      ap (slice_get reached.sessions) ((fits_at disk is).each who session found).number ∙ found
 
 -- ---- the records that are settled
 

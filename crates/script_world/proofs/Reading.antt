@@ -43,8 +43,8 @@ use Rattle.script_world.proofs.Fitting.{changes_in}
 use Rattle.script_world.proofs.FittingSessions.{length-seen, seen-latest}
 use Rattle.script_world.proofs.FittingTurns.{acquire_reply-cases, commit_reply-cases, located-cases, number-small}
 use Rattle.script_world.proofs.Extending.{within, staged_found, IsCommitted-accepted}
-use Rattle.script_world.proofs.DiskTurns.{unwritten_turn, turn-cases}
-use Rattle.script_world.proofs.Opening.{always_reached}
+use Rattle.script_world.proofs.DiskTurns.{turn-cases, attach-unwritten, acquire-unwritten, assign-unwritten, update-unwritten, show-unwritten}
+use Rattle.script_world.proofs.Opening.{fits_at, found_at_number}
 
 -- ---- AW ATTACH
 
@@ -296,31 +296,6 @@ module _ (definitions names : List (List ℕ)) (sessions : List Session) (shared
 
 -- ---- on a disk
 
--- a command that isn't COMMIT writes no record
-module _ (coming : List Outcome) (definitions names : List (List ℕ)) (disk : OnDisk (Workspace Change)) (s : Session) where
-  abbrev IsUnwritten : Begun × Session → Type 0
-  IsUnwritten b = turn_from (by_history coming) definitions names disk b ≡ unwritten_turn disk (turn_from history_machine definitions names disk.state b)
-
-  attach-unwritten : (views : Option (List View)) → IsUnwritten (elim views [ None ↦ (Ask (entry.Attach s.who), s) | Some views ↦ (Said (Refused already_attached), s) ])
-  attach-unwritten None = refl
-  attach-unwritten (Some views) = refl
-
-  acquire-unwritten : (found : Result View Refusal) → IsUnwritten (elim found [ Err refusal ↦ (Said (Refused refusal), s) | Ok view ↦ (Ask (entry.Acquire s.who view.object view.number), s) ])
-  acquire-unwritten (Err refusal) = refl
-  acquire-unwritten (Ok view) = refl
-
-  assign-unwritten : (value : ℤ) (found : Result View Refusal) → IsUnwritten (elim found [ Err refusal ↦ (Said (Refused refusal), s) | Ok view ↦ (Said Done, with_view s (record view { private = Int value })) ])
-  assign-unwritten value (Err refusal) = refl
-  assign-unwritten value (Ok view) = refl
-
-  update-unwritten : (views : Option (List View)) → IsUnwritten (elim views [ None ↦ (Said (Refused not_attached), s) | Some views ↦ (Said Done, record s { views = Some (map updated views) }) ])
-  update-unwritten None = refl
-  update-unwritten (Some views) = refl
-
-  show-unwritten : (found : Result View Refusal) → IsUnwritten (elim found [ Err refusal ↦ (Said (Refused refusal), s) | Ok view ↦ (Said (Shown view.private), s) ])
-  show-unwritten (Err refusal) = refl
-  show-unwritten (Ok view) = refl
-
 module _ (coming : List Outcome) (definitions names : List (List ℕ)) (sessions : List Session) (disk : OnDisk (Workspace Change)) (s : Session) (fits : SharedFits definitions sessions disk.state) (own_place : slice_get sessions s.who ≡ Some s) (views : List View) (attached : s.views ≡ Some views) where
   abbrev MovesOnDisk : Command → Turn (OnDisk (Workspace Change)) → Type 0
   MovesOnDisk own t = Moves definitions own disk.state t.shared.state s views t.session
@@ -393,16 +368,10 @@ module _ (records : List Decoded) (coming : List Outcome) (lines : List (List �
   abbrev reached : World (OnDisk (Workspace Change))
   reached = world_at records coming lines
 
-  all_fit_at : (disk : OnDisk (Workspace Change)) → reached.shared ≡ Some disk → SharedFits reached.definitions reached.sessions disk.state
-  all_fit_at disk is = (always_reached records coming lines can).fits.shared disk is
-
-  found_by_number : (disk : OnDisk (Workspace Change)) (who : ℕ) (session : Session) → reached.shared ≡ Some disk → slice_get reached.sessions who ≡ Some session → slice_get reached.sessions session.who ≡ Some session
-  found_by_number disk who session is found = ap (slice_get reached.sessions) ((all_fit_at disk is).each who session found).number ∙ found
-
   pub own_commands_move : OwnCommandsMove coming (world_at records coming lines)
   own_commands_move disk who session views is found attached =
-      moves_on_disk coming reached.definitions reached.names reached.sessions disk session (all_fit_at disk is) (found_by_number disk who session is found) views attached
+      moves_on_disk coming reached.definitions reached.names reached.sessions disk session (fits_at records coming lines can disk is) (found_at_number records coming lines can disk who session is found) views attached
 
   pub shows_what_is_read : ShowsWhatIsRead coming (world_at records coming lines)
   shows_what_is_read disk who session views is found attached =
-      shows coming reached.definitions reached.names reached.sessions disk session (all_fit_at disk is) (found_by_number disk who session is found) views attached
+      shows coming reached.definitions reached.names reached.sessions disk session (fits_at records coming lines can disk is) (found_at_number records coming lines can disk who session is found) views attached
