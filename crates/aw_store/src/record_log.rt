@@ -4,7 +4,7 @@ ghost use Rattle.aw_lists.specs.Faults.{Rose};
 ghost use Rattle.aw_codec.specs.Records.{FitsPayload};
 ghost use Rattle.aw_journal.specs.Left.{Left};
 ghost use Rattle.aw_journal.specs.Passed.{Passed};
-ghost use Rattle.aw_store.specs.Images.{HoldsRecords, LeftRecords};
+ghost use Rattle.aw_store.specs.Images.{AreRecords, HoldsRecords, LeftRecords};
 ghost use Rattle.aw_store.specs.Recorded.{record_from, IsNext, AreSpellings};
 
 use aw_disk::Disk;
@@ -73,9 +73,10 @@ impl<D: Disk> RecordLog<D> {
         }
     }
 
-    /// What a crash now may leave.
+    /// Each settled record has a spelling, and what a crash now may leave.
     pub fn leaves(&self)
-        ensures { (image : List ℕ) → D.crash self.now.disk (D.clock self.now.disk) image → LeftRecords self.now.records self.now.doubt image }
+        ensures spellings { AreRecords self.now.records }
+        ensures images { (image : List ℕ) → D.crash self.now.disk (D.clock self.now.disk) image → LeftRecords self.now.records self.now.doubt image }
     {
         self.journal.leaves();
     }

@@ -9,7 +9,7 @@ ghost use Rattle.mv_core.specs.declared.entry.Reply.TheVariants.{Fault};
 ghost use Rattle.mv_core.specs.Workspace.{Workspace, standing, opened};
 ghost use Rattle.mv_core.specs.Integers.{integers};
 ghost use Rattle.aw_store.specs.Replay.{can_replay, names_of, workspace_of, pair_from, commit_record};
-ghost use Rattle.aw_store.specs.Images.{HoldsRecords, LeftRecords, IsRefused};
+ghost use Rattle.aw_store.specs.Images.{AreRecords, HoldsRecords, LeftRecords, IsRefused};
 ghost use Rattle.aw_store.specs.Stores.{record_of, Doubts, Writes, Acts, IsToWrite, IsLegalOnDisk};
 
 use crate::NoMemory;
@@ -95,9 +95,11 @@ impl<D: Disk> Store<D> {
         }
     }
 
-    /// What holds between two calls: the records can be replayed, the objects stand as their commits
-    /// left them, and a crash now leaves the settled records, or these and the one in doubt.
+    /// What holds between two calls: each record has a spelling, the records can be replayed, the
+    /// objects stand as their commits left them, and a crash now leaves the settled records, or these
+    /// and the one in doubt.
     pub fn stands(&self)
+        ensures spellings { AreRecords self.now.records }
         ensures replayable { IsTrue (can_replay self.now.records) }
         ensures objects { (owners : List (ℕ × ℕ)) × (self.now.objects ≡ standing integers (workspace_of self.now.records owners)) }
         ensures sized { length self.now.objects ≡ length (unwrap_or (names_of self.now.records) []) }

@@ -7,10 +7,10 @@ use Rattle.aw_store.proofs.Spellings.{found, IsNext-spelled}
 use Rattle.aw_store.proofs.store.write_commit.Goals as goal
 
 pub returns-in-Err-clause-moments : goal.returns-in-Err-clause-moments
-returns-in-Err-clause-moments g c = Passed-none (λ image left. inl (c.leaves.ensures image left))
+returns-in-Err-clause-moments g c = Passed-none (λ image left. inl (c.leaves.ensures.images image left))
 
 pub returns-clause-moments : goal.returns-clause-moments
-returns-clause-moments g c = Passed-none (λ image left. inl (c.leaves.ensures image left))
+returns-clause-moments g c = Passed-none (λ image left. inl (c.leaves.ensures.images image left))
 
 pub write-requires-clause-next : goal.write-requires-clause-next
 write-requires-clause-next g c =
