@@ -15,14 +15,15 @@ use Rattle.mv_core.specs.declared.object.Object.{Object}
 use Rattle.aw_cell.specs.declared.cell.Cell.{Cell}
 use Rattle.script_world.specs.StoreTurns.{store_disk}
 use Rattle.aw_journal.specs.Passed.{Passed}
-use Rattle.aw_store.specs.Images.{HoldsRecords, LeftRecords, IsRefused}
-use Rattle.aw_store.specs.Replay.{can_replay, names_of, workspace_of}
+use Rattle.aw_store.specs.Images.{HoldsRecords, LeftRecords}
+use Rattle.aw_store.specs.Replay.{names_of, workspace_of}
 use Rattle.aw_store.specs.Stores.{StoreState}
 use Rattle.script_world.specs.Worlds.{World, with_shared}
 use Rattle.script_world.specs.Outcomes.{Outcome, faulted, Attempt, OnDisk, by_history}
 use Rattle.script_world.specs.Alike.{standing_disk}
 use Rattle.script_world.specs.Script.{ended_lines, script_lines}
 use Rattle.script_world.specs.Faring.{Fares, HoldsLeft}
+use Rattle.script_world.specs.Matching.{CanBeOpened}
 use Rattle.script_world.specs.Transcript.{opening, text_of, world_at, attempts}
 use Rattle.script_world.specs.Running.{IsRun}
 use Rattle.script_world.proofs.Faring.{fares_opened, fares_final}
@@ -36,13 +37,14 @@ use Rattle.script_play.specs.StoreWorlds.{world_of, IsSound}
 use Rattle.script_play.specs.Turning.{FewFaults, defining, Later}
 use Rattle.script_play.specs.Playing.{Play, Stands, HasDone, WasCut, HasFailed, HasPlayed, HasFinished}
 use Rattle.script_play.specs.Reading.{Streams, streams, BrokeOff, RanOver, EndsRun, EndsFrom}
-use Rattle.script_play.specs.Ends.{IsFront, AreLines, IsWhole, IsCut, IsUndefined, EndsSo, contents, WasOpened, Tells, Plays}
+use Rattle.script_play.specs.Ends.{IsFront, AreLines, IsWhole, IsCut, IsUndefined, EndsSo, contents, WasOpened, Plays}
 use Rattle.script_play.specs.Opened.{opened_world, opened_play}
 use Rattle.script_play.proofs.Turning.{later-same}
 use Rattle.script_play.proofs.Done.{cut_before, rose-earlier}
 use Rattle.ses_step.specs.declared.session.Session.{Session}
 use Rattle.aw_lists.specs.Faults.{Rose}
-use Rattle.aw_journal.specs.declared.fault.LoadFault.{LoadFault}
+use Rattle.script_disk.specs.declared.opening.Unopened.{Unopened}
+use Rattle.script_disk.specs.Opened.{IsUnopened, status_of as unopened_status}
 
 if-some : (known : Option (List ℕ)) (P : List ℕ → Type 0) → ((image : List ℕ) → known ≡ Some image → P image) → IfSome known P
 if-some None P each = tt
@@ -226,11 +228,11 @@ module _ {D : Type 0} (faults clock : D → ℕ) (crash : D → ℕ → List ℕ
 
   -- ---- the whole run
 
-  pub was_opened : (content : D → Option (List ℕ)) (disk : D) (ending : Ending) (s : Streams) (first last : StoreState D) → ((bytes : List ℕ) → content last.disk ≡ Some bytes → crash last.disk (clock last.disk) bytes) → IsTrue (can_replay first.records) → IfSome (content disk) (λ image. HoldsRecords image first.records) → Passed (clock disk) (clock first.disk) (crash disk) (crash first.disk) (crash disk (clock disk)) → faults disk ≤ faults first.disk → EndedAs faults clock crash first.records first.disk ending s last →
+  pub was_opened : (content : D → Option (List ℕ)) (disk : D) (ending : Ending) (s : Streams) (first last : StoreState D) → ((bytes : List ℕ) → content last.disk ≡ Some bytes → crash last.disk (clock last.disk) bytes) → CanBeOpened first.records → IfSome (content disk) (λ image. HoldsRecords image first.records) → Passed (clock disk) (clock first.disk) (crash disk) (crash first.disk) (crash disk (clock disk)) → faults disk ≤ faults first.disk → EndedAs faults clock crash first.records first.disk ending s last →
       WasOpened s (contents (content disk) (content last.disk) (faults disk) (faults last.disk)) (clock disk) (clock last.disk) (crash disk) (crash last.disk) (status_of ending)
-  was_opened content disk ending s first last is_image replays holds passed later it = record {
+  was_opened content disk ending s first last is_image opens holds passed later it = record {
     records = first.records;
-    replays = replays;
+    can_be_opened = opens;
     holds = holds;
     ending = ending;
     is = refl;
@@ -249,16 +251,6 @@ module _ {D : Type 0} (faults clock : D → ℕ) (crash : D → ℕ → List ℕ
     crash = it.stands.fares.each;
     leaves = if-some (content last.disk) (λ image. HoldsLeft first.records it.made (length it.made) image) (λ image told.
         fares_final first.records it.made it.stands.ends (clock first.disk) (clock last.disk) (crash last.disk) last.records last.doubt it.stands.fares image (is_image image told));
-  }
-
-  pub run_later : (disk : D) (first last : StoreState D) (during : List ℕ → Type 0) → Passed (clock disk) (clock first.disk) (crash disk) (crash first.disk) during → faults disk ≤ faults first.disk → Later faults clock crash first.disk last.disk → Later faults clock crash disk last.disk
-  run_later disk first last during passed later more = record {
-    clock_later = omega (arith, passed.later, more.clock_later);
-    kept = λ moment image below. (
-      λ left. (passed.kept moment image below).0 ((more.kept moment image (omega (arith, below, passed.later))).0 left),
-      λ left. (more.kept moment image (omega (arith, below, passed.later))).1 ((passed.kept moment image below).1 left),
-    );
-    faults_later = omega (arith, later, more.faults_later);
   }
 
   pub disk_rose : (records : List Decoded) (at : D) (s : Streams) (store : StoreState D) → EndsRun faults clock crash records at DiskFault s store → Rose (faults at) (faults store.disk)
@@ -282,13 +274,13 @@ module _ {D : Type 0} (faults clock : D → ℕ) (crash : D → ℕ → List ℕ
     ended : EndedAs faults clock crash first.records first.disk ending s last
     ended = ended_as faults clock crash first.records first.disk ending s last (ends.ends first.records first.disk (begins first s.written_before certain objects images))
 
-    pub opened_plays : (after : D) → after ≡ last.disk → ((bytes : List ℕ) → content last.disk ≡ Some bytes → crash last.disk (clock last.disk) bytes) → IsTrue (can_replay first.records) → IfSome (content disk) (λ image. HoldsRecords image first.records) → (status : ℕ) → status ≡ status_of ending → Plays s (contents (content disk) (content after) (faults disk) (faults after)) (clock disk) (clock after) (crash disk) (crash after) status
-    opened_plays after same is_image replays holds status is =
+    pub opened_plays : (after : D) → after ≡ last.disk → ((bytes : List ℕ) → content last.disk ≡ Some bytes → crash last.disk (clock last.disk) bytes) → CanBeOpened first.records → IfSome (content disk) (λ image. HoldsRecords image first.records) → (status : ℕ) → status ≡ status_of ending → Plays s (contents (content disk) (content after) (faults disk) (faults after)) (clock disk) (clock after) (crash disk) (crash after) status
+    opened_plays after same is_image opens holds status is =
         let P : D → ℕ → Type 0 = λ after status. WasOpened s (contents (content disk) (content after) (faults disk) (faults after)) (clock disk) (clock after) (crash disk) (crash after) status in
-        inr (subst (λ after. P after status) (sym same) (subst (P last.disk) (sym is) (was_opened content disk ending s first last is_image replays holds passed later ended)))
+        inr (subst (λ after. P after status) (sym same) (subst (P last.disk) (sym is) (was_opened content disk ending s first last is_image opens holds passed later ended)))
 
-    pub opened_later : (after : D) → after ≡ last.disk → Later faults clock crash disk after
-    opened_later after same = subst (Later faults clock crash disk) (sym same) (run_later disk first last (crash disk (clock disk)) passed later ended.stands.later)
+    pub opened_later : (after : D) → after ≡ last.disk → faults disk ≤ faults after
+    opened_later after same = let more = ended.stands.later.faults_later in subst (λ after. faults disk ≤ faults after) (sym same) (omega (arith, later, more))
 
     pub opened_rose : (after : D) → after ≡ last.disk → (status : ℕ) → status ≡ status_of ending → status ≡ 5 → Rose (faults disk) (faults after)
     opened_rose after same status is five =
@@ -297,5 +289,5 @@ module _ {D : Type 0} (faults clock : D → ℕ) (crash : D → ℕ → List ℕ
 
   -- ---- a disk that isn't opened
 
-  pub not_opened : (content : D → Option (List ℕ)) (disk after : D) (fault : LoadFault) (s : Streams) (status : ℕ) → IfSome (content disk) (IsRefused fault) → Tells s.written_before s.written_now fault status → s.left_now ≡ s.left_before → content after ≡ content disk → Passed (clock disk) (clock after) (crash disk) (crash after) (crash disk (clock disk)) → Plays s (contents (content disk) (content after) (faults disk) (faults after)) (clock disk) (clock after) (crash disk) (crash after) status
-  not_opened content disk after fault s status why tells left same passed = inl (record { fault = fault; why = why; tells = tells; left = left; content = same; undisturbed = passed.only })
+  pub not_opened : (content : D → Option (List ℕ)) (disk after : D) (why : Unopened) (s : Streams) (status : ℕ) → status ≡ unopened_status why → IsUnopened why (content disk) s.written_before s.written_now → s.left_now ≡ s.left_before → content after ≡ content disk → Passed (clock disk) (clock after) (crash disk) (crash after) (crash disk (clock disk)) → Plays s (contents (content disk) (content after) (faults disk) (faults after)) (clock disk) (clock after) (crash disk) (crash after) status
+  not_opened content disk after why s status is tells left same passed = inl (record { why = why; is = is; tells = tells; left = left; content = same; undisturbed = passed.only })

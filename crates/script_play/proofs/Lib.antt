@@ -6,6 +6,4 @@ pub mod Fed
 pub mod Finished
 pub mod Taken
 pub mod Endings
-pub mod Lending
-pub mod Dumping
 pub mod Completing

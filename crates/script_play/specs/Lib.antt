@@ -6,4 +6,3 @@ pub mod Statuses
 pub mod Reading
 pub mod Ends
 pub mod Opened
-pub mod Lent

@@ -1,7 +1,6 @@
--- The words of the command line, the texts that are fixed, and the statuses.
+-- The words of the command line, the usage line, and the statuses.
 use Rattle.std.specs.Prelude.{◌++◌, ◌∷◌, ℕ, Bool, false, List, [], codes, if◌then◌else◌}
 use Rattle.std.specs.Str.{bytes_eq}
-use Rattle.std.specs.Fmt.{decimal}
 use Rattle.script_play.specs.declared.command.Command.{Command}
 use Rattle.script_play.specs.declared.command.Command.TheVariants.{Play, New, Dump, Other}
 use Rattle.script_play.specs.declared.ending.Ending.{Ending}
@@ -19,19 +18,6 @@ command_of words =
 
 abbrev pub usage : List ℕ
 usage = codes "usage: play, new, dump, make N" ++ 10 ∷ []
-
-abbrev pub unformatted_text : List ℕ
-unformatted_text = codes "NOT A WORKSPACE" ++ 10 ∷ []
-
--- the number is the offset of the frame's gate
-abbrev pub damaged_text : ℕ → List ℕ
-damaged_text offset = codes "DAMAGED " ++ decimal offset ++ 10 ∷ []
-
-abbrev pub formatted_text : List ℕ
-formatted_text = codes "ok" ++ 10 ∷ []
-
-abbrev pub already_text : List ℕ
-already_text = codes "ALREADY A WORKSPACE" ++ 10 ∷ []
 
 -- how many bytes a script may have
 abbrev pub most_bytes : ℕ

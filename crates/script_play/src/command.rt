@@ -1,16 +1,18 @@
-ghost use Rattle.std.specs.Prelude.{◌≡◌, ◌≢◌, ◌≤◌, ℕ, List, Some};
+ghost use Rattle.std.specs.Prelude.{◌≡◌, ◌≢◌, ◌≤◌, IsSome};
 ghost use Rattle.aw_lists.specs.Faults.{Rose};
+ghost use Rattle.script_disk.specs.Dumped.{Dumps, CompletesDump};
+ghost use Rattle.script_disk.specs.Formatted.{AreFormatted};
+ghost use Rattle.script_disk.specs.Made.{Makes};
+ghost use Rattle.script_disk.specs.Texts.{Says};
 ghost use Rattle.script_play.specs.Statuses as spec;
 ghost use Rattle.script_play.specs.Reading.{streams};
-ghost use Rattle.script_play.specs.Ends.{Plays, AreFormatted, Completes, Makes, Dumps, Refuses, contents};
+ghost use Rattle.script_play.specs.Ends.{Plays, Completes, contents};
 
-use crate::dump::dump;
-use crate::lent::Lent;
-use crate::making::make;
-use crate::top::{Ran, play};
+use crate::top::play;
 use aw_cell::Text;
 use aw_disk::Disk;
 use aw_io::{Sink, Source, put_all};
+use script_disk::{dump, make};
 use std::alloc::Global;
 
 const USAGE: &[u8] = b"usage: play, new, dump, make N\n";
@@ -50,7 +52,7 @@ fn command_of(words: &[Text]) -> Command
 }
 
 fn usage<K: Sink>(out: &mut K) -> u8
-    ensures refuses { Refuses (K.written out.old) (K.written out.new) result }
+    ensures refuses { Says 2 spec.usage result (K.written out.old) (K.written out.new) }
     ensures later { K.faults out.old ≤ K.faults out.new }
     ensures cause { result ≡ 4 → Rose (K.faults out.old) (K.faults out.new) }
 {
@@ -58,76 +60,6 @@ fn usage<K: Sink>(out: &mut K) -> u8
         Ok(()) => 2,
         Err(_) => 4,
     }
-}
-
-/// Plays a script on a disk that is lent, and hands it back.
-fn play_kept<'a, D: Disk, S: Source, K: Sink>(
-    alloc: Global,
-    script: &mut S,
-    out: &mut K,
-    disk: &'a mut D,
-) -> (u8, &'a mut D)
-    ensures same { result.1.ghost_name ≡ disk.entry.ghost_name }
-    ensures plays { Plays (streams (S.left script.old) (S.left script.new) (K.written out.old) (K.written out.new)) (contents (D.content disk.old) (D.content result.1.now) (D.faults disk.old) (D.faults result.1.now)) (D.clock disk.old) (D.clock result.1.now) (D.crash disk.old) (D.crash result.1.now) result.0 }
-    ensures completes { AreFormatted (D.crash disk.old (D.clock disk.old)) → (image : List ℕ) → D.content disk.old ≡ Some image
-        → ¬ (Rose (S.faults script.old) (S.faults script.new)) → ¬ (Rose (K.faults out.old) (K.faults out.new)) → ¬ (Rose (D.faults disk.old) (D.faults result.1.now))
-        → Completes result.0 }
-    ensures source_later { S.faults script.old ≤ S.faults script.new }
-    ensures sink_later { K.faults out.old ≤ K.faults out.new }
-    ensures disk_later { D.faults disk.old ≤ D.faults result.1.now }
-    ensures source_cause { result.0 ≡ 3 → Rose (S.faults script.old) (S.faults script.new) }
-    ensures sink_cause { result.0 ≡ 4 → Rose (K.faults out.old) (K.faults out.new) }
-    ensures disk_cause { result.0 ≡ 5 → Rose (D.faults disk.old) (D.faults result.1.now) }
-{
-    let Ran { status, disk: lent } = play(alloc, script, out, Lent { disk });
-    let Lent { disk } = lent;
-    (status, disk)
-}
-
-fn play_lent<D: Disk, S: Source, K: Sink>(
-    alloc: Global,
-    script: &mut S,
-    out: &mut K,
-    disk: &mut D,
-) -> u8
-    ensures plays { Plays (streams (S.left script.old) (S.left script.new) (K.written out.old) (K.written out.new)) (contents (D.content disk.old) (D.content disk.new) (D.faults disk.old) (D.faults disk.new)) (D.clock disk.old) (D.clock disk.new) (D.crash disk.old) (D.crash disk.new) result }
-    ensures completes { AreFormatted (D.crash disk.old (D.clock disk.old)) → (image : List ℕ) → D.content disk.old ≡ Some image
-        → ¬ (Rose (S.faults script.old) (S.faults script.new)) → ¬ (Rose (K.faults out.old) (K.faults out.new)) → ¬ (Rose (D.faults disk.old) (D.faults disk.new))
-        → Completes result }
-    ensures source_later { S.faults script.old ≤ S.faults script.new }
-    ensures sink_later { K.faults out.old ≤ K.faults out.new }
-    ensures disk_later { D.faults disk.old ≤ D.faults disk.new }
-    ensures source_cause { result ≡ 3 → Rose (S.faults script.old) (S.faults script.new) }
-    ensures sink_cause { result ≡ 4 → Rose (K.faults out.old) (K.faults out.new) }
-    ensures disk_cause { result ≡ 5 → Rose (D.faults disk.old) (D.faults disk.new) }
-{
-    let (status, _same) = play_kept(alloc, script, out, disk);
-    status
-}
-
-/// Dumps a disk that is lent, and hands it back.
-fn dump_kept<'a, D: Disk, K: Sink>(alloc: Global, out: &mut K, disk: &'a mut D) -> (u8, &'a mut D)
-    ensures same { result.1.ghost_name ≡ disk.entry.ghost_name }
-    ensures dumps { Dumps (contents (D.content disk.old) (D.content result.1.now) (D.faults disk.old) (D.faults result.1.now)) (K.written out.old) (K.written out.new) (D.clock disk.old) (D.clock result.1.now) (D.crash disk.old) (D.crash result.1.now) result.0 }
-    ensures sink_later { K.faults out.old ≤ K.faults out.new }
-    ensures disk_later { D.faults disk.old ≤ D.faults result.1.now }
-    ensures sink_cause { result.0 ≡ 4 → Rose (K.faults out.old) (K.faults out.new) }
-    ensures disk_cause { result.0 ≡ 5 → Rose (D.faults disk.old) (D.faults result.1.now) }
-{
-    let Ran { status, disk: lent } = dump(alloc, out, Lent { disk });
-    let Lent { disk } = lent;
-    (status, disk)
-}
-
-fn dump_lent<D: Disk, K: Sink>(alloc: Global, out: &mut K, disk: &mut D) -> u8
-    ensures dumps { Dumps (contents (D.content disk.old) (D.content disk.new) (D.faults disk.old) (D.faults disk.new)) (K.written out.old) (K.written out.new) (D.clock disk.old) (D.clock disk.new) (D.crash disk.old) (D.crash disk.new) result }
-    ensures sink_later { K.faults out.old ≤ K.faults out.new }
-    ensures disk_later { D.faults disk.old ≤ D.faults disk.new }
-    ensures sink_cause { result ≡ 4 → Rose (K.faults out.old) (K.faults out.new) }
-    ensures disk_cause { result ≡ 5 → Rose (D.faults disk.old) (D.faults disk.new) }
-{
-    let (status, _same) = dump_kept(alloc, out, disk);
-    status
 }
 
 /// Runs the command that the words ask for; they are those of the command line behind the path of
@@ -162,14 +94,17 @@ pub fn run<S: Source, K: Sink, D: Disk>(
 ) -> u8
     ensures plays { spec.command_of words.now ≡ Command.Play
         → Plays (streams (S.left script.old) (S.left script.new) (K.written out.old) (K.written out.new)) (contents (D.content disk.old) (D.content disk.new) (D.faults disk.old) (D.faults disk.new)) (D.clock disk.old) (D.clock disk.new) (D.crash disk.old) (D.crash disk.new) result }
-    ensures completes { spec.command_of words.now ≡ Command.Play → AreFormatted (D.crash disk.old (D.clock disk.old)) → (image : List ℕ) → D.content disk.old ≡ Some image
+    ensures completes { spec.command_of words.now ≡ Command.Play → AreFormatted (D.crash disk.old (D.clock disk.old)) → IsSome (D.content disk.old)
         → ¬ (Rose (S.faults script.old) (S.faults script.new)) → ¬ (Rose (K.faults out.old) (K.faults out.new)) → ¬ (Rose (D.faults disk.old) (D.faults disk.new))
-        → Completes result }
+        → Completes (streams (S.left script.old) (S.left script.new) (K.written out.old) (K.written out.new)) (contents (D.content disk.old) (D.content disk.new) (D.faults disk.old) (D.faults disk.new)) (D.clock disk.old) (D.clock disk.new) (D.crash disk.old) (D.crash disk.new) result }
     ensures makes { spec.command_of words.now ≡ Command.New
         → Makes D.content D.faults D.clock D.crash disk.old disk.new (K.written out.old) (K.written out.new) result }
     ensures dumps { spec.command_of words.now ≡ Command.Dump
-        → Dumps (contents (D.content disk.old) (D.content disk.new) (D.faults disk.old) (D.faults disk.new)) (K.written out.old) (K.written out.new) (D.clock disk.old) (D.clock disk.new) (D.crash disk.old) (D.crash disk.new) result }
-    ensures refuses { spec.command_of words.now ≡ Command.Other → Refuses (K.written out.old) (K.written out.new) result }
+        → Dumps D.content D.clock D.crash disk.old disk.new (K.written out.old) (K.written out.new) result }
+    ensures dump_completes { spec.command_of words.now ≡ Command.Dump → AreFormatted (D.crash disk.old (D.clock disk.old)) → IsSome (D.content disk.old)
+        → ¬ (Rose (D.faults disk.old) (D.faults disk.new)) → ¬ (Rose (K.faults out.old) (K.faults out.new))
+        → CompletesDump result }
+    ensures refuses { spec.command_of words.now ≡ Command.Other → Says 2 spec.usage result (K.written out.old) (K.written out.new) }
     ensures untouched { spec.command_of words.now ≢ Command.Play → script.new ≡ script.old }
     ensures unopened { spec.command_of words.now ≡ Command.Other → disk.new ≡ disk.old }
     ensures source_later { S.faults script.old ≤ S.faults script.new }
@@ -180,9 +115,9 @@ pub fn run<S: Source, K: Sink, D: Disk>(
     ensures disk_cause { result ≡ 5 → Rose (D.faults disk.old) (D.faults disk.new) }
 {
     match command_of(words) {
-        Command::Play => play_lent(alloc, script, out, disk),
-        Command::New => make(out, disk),
-        Command::Dump => dump_lent(alloc, out, disk),
+        Command::Play => play(alloc, script, out, disk),
+        Command::New => make(disk, out),
+        Command::Dump => dump(alloc, disk, out),
         Command::Other => usage(out),
     }
 }

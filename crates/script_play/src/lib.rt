@@ -3,13 +3,9 @@
 #![tactic(auto)]
 
 mod command;
-mod dump;
 mod ending;
-mod lent;
-mod making;
 mod player;
 mod reading;
-mod refusing;
 mod response;
 mod stop;
 #[cfg(test)]

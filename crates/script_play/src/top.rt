@@ -1,24 +1,25 @@
-ghost use Rattle.std.specs.Prelude.{◌≡◌, ◌<◌, ◌≤◌, [], IfOk, length, vec_len, unwrap_or};
+ghost use Rattle.std.specs.Prelude.{◌≡◌, ◌<◌, ◌≤◌, [], IfOk, IsSome, length, vec_len, unwrap_or};
 ghost use Rattle.aw_lists.specs.Faults.{Rose};
 ghost use Rattle.aw_store.specs.Replay.{names_of};
+ghost use Rattle.script_disk.specs.Formatted.{AreFormatted};
 ghost use Rattle.script_play.specs.declared.ending.Ending.TheVariants as ending;
 ghost use Rattle.script_play.specs.StoreWorlds.{IsSound};
 ghost use Rattle.script_play.specs.Players.{play_of};
 ghost use Rattle.script_play.specs.Reading.{EndsFrom, FinishesBy, streams};
 ghost use Rattle.script_play.specs.Opened.{opened_play};
-ghost use Rattle.script_play.specs.Ends.{Plays, contents};
-ghost use Rattle.script_play.specs.Turning.{Later};
+ghost use Rattle.script_play.specs.Ends.{Plays, Completes, contents};
 
 use crate::ending::Ending;
 use crate::player::Player;
 use crate::reading::{ending_of, read};
-use crate::refusing::refuse;
 use crate::world::StoreWorld;
 use aw_cell::Text;
 use aw_disk::Disk;
 use aw_io::{Sink, Source};
 use aw_lists::List;
 use aw_store::Store;
+use core::mem::replace_with;
+use script_disk::open;
 use ses_step::Names;
 use std::alloc::{AllocError, Global};
 
@@ -95,13 +96,13 @@ fn play_with<D: Disk, S: Source, K: Sink>(
 
 /// How a run ended, and the store that it left.
 #[derive(Drop)]
-pub struct Ended<S> {
-    pub ending: Ending,
-    pub store: S,
+struct Ended<S> {
+    ending: Ending,
+    store: S,
 }
 
 /// Plays a script over a store that was just loaded.
-pub fn play_over<D: Disk, S: Source, K: Sink>(
+fn play_over<D: Disk, S: Source, K: Sink>(
     alloc: Global,
     script: &mut S,
     out: &mut K,
@@ -147,27 +148,27 @@ pub fn play_over<D: Disk, S: Source, K: Sink>(
 
 /// The status of a run, and the disk that it left.
 #[derive(Drop)]
-pub struct Ran<D> {
-    pub status: u8,
-    pub disk: D,
+struct Ran<D> {
+    status: u8,
+    disk: D,
 }
 
 /// Opens a disk, and plays a script on it.
-pub fn play<D: Disk, S: Source, K: Sink>(
+fn play_opened<D: Disk, S: Source, K: Sink>(
     alloc: Global,
     script: &mut S,
     out: &mut K,
     disk: D,
 ) -> Ran<D>
     ensures plays { Plays (streams (S.left script.old) (S.left script.new) (K.written out.old) (K.written out.new)) (contents (D.content disk) (D.content result.disk) (D.faults disk) (D.faults result.disk)) (D.clock disk) (D.clock result.disk) (D.crash disk) (D.crash result.disk) result.status }
-    ensures time { Later D.faults D.clock D.crash disk result.disk }
     ensures source_later { S.faults script.old ≤ S.faults script.new }
     ensures sink_later { K.faults out.old ≤ K.faults out.new }
+    ensures disk_later { D.faults disk ≤ D.faults result.disk }
     ensures source_cause { result.status ≡ 3 → Rose (S.faults script.old) (S.faults script.new) }
     ensures sink_cause { result.status ≡ 4 → Rose (K.faults out.old) (K.faults out.new) }
     ensures disk_cause { result.status ≡ 5 → Rose (D.faults disk) (D.faults result.disk) }
 {
-    match Store::load(alloc, disk) {
+    match open(alloc, disk, out) {
         Ok(store) => {
             store.stands();
             let ended = play_over(alloc, script, out, store);
@@ -176,9 +177,63 @@ pub fn play<D: Disk, S: Source, K: Sink>(
                 disk: ended.store.into_disk(),
             }
         }
-        Err((fault, disk)) => Ran {
-            status: refuse(alloc, fault, out),
+        Err((why, disk)) => Ran {
+            status: why.status(),
             disk,
         },
     }
+}
+
+/// What a run needs beside the disk. It is handed back, so that a caller knows the devices again.
+#[derive(Drop)]
+struct Devices<'a, S, K> {
+    alloc: Global,
+    script: &'a mut S,
+    out: &'a mut K,
+}
+
+fn play_disk<'a, D: Disk, S: Source, K: Sink>(
+    disk: D,
+    devices: Devices<'a, S, K>,
+) -> (D, (u8, Devices<'a, S, K>))
+    ensures same_source { result.1.1.script.ghost_name ≡ devices.entry.script.ghost_name }
+    ensures same_sink { result.1.1.out.ghost_name ≡ devices.entry.out.ghost_name }
+    ensures plays { Plays (streams (S.left devices.entry.script.now) (S.left result.1.1.script.now) (K.written devices.entry.out.now) (K.written result.1.1.out.now)) (contents (D.content disk) (D.content result.0) (D.faults disk) (D.faults result.0)) (D.clock disk) (D.clock result.0) (D.crash disk) (D.crash result.0) result.1.0 }
+    ensures completes { AreFormatted (D.crash disk (D.clock disk)) → IsSome (D.content disk)
+        → ¬ (Rose (S.faults devices.entry.script.now) (S.faults result.1.1.script.now)) → ¬ (Rose (K.faults devices.entry.out.now) (K.faults result.1.1.out.now)) → ¬ (Rose (D.faults disk) (D.faults result.0))
+        → Completes (streams (S.left devices.entry.script.now) (S.left result.1.1.script.now) (K.written devices.entry.out.now) (K.written result.1.1.out.now)) (contents (D.content disk) (D.content result.0) (D.faults disk) (D.faults result.0)) (D.clock disk) (D.clock result.0) (D.crash disk) (D.crash result.0) result.1.0 }
+    ensures source_later { S.faults devices.entry.script.now ≤ S.faults result.1.1.script.now }
+    ensures sink_later { K.faults devices.entry.out.now ≤ K.faults result.1.1.out.now }
+    ensures disk_later { D.faults disk ≤ D.faults result.0 }
+    ensures source_cause { result.1.0 ≡ 3 → Rose (S.faults devices.entry.script.now) (S.faults result.1.1.script.now) }
+    ensures sink_cause { result.1.0 ≡ 4 → Rose (K.faults devices.entry.out.now) (K.faults result.1.1.out.now) }
+    ensures disk_cause { result.1.0 ≡ 5 → Rose (D.faults disk) (D.faults result.0) }
+{
+    let Devices { alloc, script, out } = devices;
+    let Ran { status, disk } = play_opened(alloc, script, out, disk);
+    (disk, (status, Devices { alloc, script, out }))
+}
+
+/// Opens a disk, plays a script on it, and answers the status.
+pub fn play<D: Disk, S: Source, K: Sink>(
+    alloc: Global,
+    script: &mut S,
+    out: &mut K,
+    disk: &mut D,
+) -> u8
+    ensures plays { Plays (streams (S.left script.old) (S.left script.new) (K.written out.old) (K.written out.new)) (contents (D.content disk.old) (D.content disk.new) (D.faults disk.old) (D.faults disk.new)) (D.clock disk.old) (D.clock disk.new) (D.crash disk.old) (D.crash disk.new) result }
+    ensures completes { AreFormatted (D.crash disk.old (D.clock disk.old)) → IsSome (D.content disk.old)
+        → ¬ (Rose (S.faults script.old) (S.faults script.new)) → ¬ (Rose (K.faults out.old) (K.faults out.new)) → ¬ (Rose (D.faults disk.old) (D.faults disk.new))
+        → Completes (streams (S.left script.old) (S.left script.new) (K.written out.old) (K.written out.new)) (contents (D.content disk.old) (D.content disk.new) (D.faults disk.old) (D.faults disk.new)) (D.clock disk.old) (D.clock disk.new) (D.crash disk.old) (D.crash disk.new) result }
+    ensures source_later { S.faults script.old ≤ S.faults script.new }
+    ensures sink_later { K.faults out.old ≤ K.faults out.new }
+    ensures disk_later { D.faults disk.old ≤ D.faults disk.new }
+    ensures source_cause { result ≡ 3 → Rose (S.faults script.old) (S.faults script.new) }
+    ensures sink_cause { result ≡ 4 → Rose (K.faults out.old) (K.faults out.new) }
+    ensures disk_cause { result ≡ 5 → Rose (D.faults disk.old) (D.faults disk.new) }
+{
+    // The store owns the disk while it is open.
+    let devices = Devices { alloc, script, out };
+    let (status, _) = replace_with(disk, devices, play_disk);
+    status
 }

@@ -17,6 +17,12 @@ use aw_store::{Store, StoreFault};
 use ses_step::{Answer, Command, Line, Names, Session, name_at, read_line};
 use std::alloc::{AllocError, Global};
 
+/// How many objects can be defined.
+const MOST_DEFINITIONS: usize = 4096;
+
+/// How many sessions a run may have.
+const MOST_SESSIONS: usize = 64;
+
 /// The world of a run: the names of the objects in order of definition, the store, which is the
 /// shared state once it has definitions, and the names and the states of the sessions by first
 /// appearance.
@@ -79,7 +85,9 @@ impl<D: Disk> StoreWorld<Store<D>> {
     fn can_define(&self, name: &Text) -> bool
         ensures { result ≡ can_join self.now name.now }
     {
-        self.is_unopened() && self.definitions.len() < 4096 && self.definitions.find(name).is_none()
+        self.is_unopened()
+            && self.definitions.len() < MOST_DEFINITIONS
+            && self.definitions.find(name).is_none()
     }
 
     fn define(&mut self, name: Text) -> Result<Option<Response>, AllocError>
@@ -202,7 +210,7 @@ impl<D: Disk> StoreWorld<Store<D>> {
         ensures err { OnErr result (Wants D.faults D.clock D.crash (session_means name command) self.old self.new) }
     {
         let who = self.session_place(&name);
-        if who >= 64 {
+        if who >= MOST_SESSIONS {
             return Ok(Response::refused(no_session()));
         }
         match self.add_session(name) {

@@ -1,0 +1,2 @@
+pub mod Completing
+mod Objects
