@@ -117,7 +117,10 @@ impl Disk for FileDisk {
         ensures later { faults_of self.old ≤ faults_of self.new }
         ensures cause { IsErr result → Rose (faults_of self.old) (faults_of self.new) }
 
-        // No call succeeds where the file couldn't be opened.
+        // A fault is counted once at each failure, and at no other time. No call succeeds where the
+        // file couldn't be opened.
+        ensures uncounted { OnOk result (faults_of self.new ≡ faults_of self.old) }
+        ensures counted { OnErr result (faults_of self.new ≡ next_count (faults_of self.old)) }
         ensures opened { IsOk result → IsTrue (is_open self.old) }
         ensures stays { is_open self.new ≡ is_open self.old }
     {
@@ -130,7 +133,10 @@ impl Disk for FileDisk {
         ensures later { faults_of self.old ≤ faults_of self.new }
         ensures cause { IsErr result → Rose (faults_of self.old) (faults_of self.new) }
 
-        // No call succeeds where the file couldn't be opened.
+        // A fault is counted once at each failure, and at no other time. No call succeeds where the
+        // file couldn't be opened.
+        ensures uncounted { OnOk result (faults_of self.new ≡ faults_of self.old) }
+        ensures counted { OnErr result (faults_of self.new ≡ next_count (faults_of self.old)) }
         ensures opened { IsOk result → IsTrue (is_open self.old) }
         ensures stays { is_open self.new ≡ is_open self.old }
     {
@@ -142,7 +148,10 @@ impl Disk for FileDisk {
         ensures later { faults_of self.old ≤ faults_of self.new }
         ensures cause { IsErr result → Rose (faults_of self.old) (faults_of self.new) }
 
-        // No call succeeds where the file couldn't be opened.
+        // A fault is counted once at each failure, and at no other time. No call succeeds where the
+        // file couldn't be opened.
+        ensures uncounted { OnOk result (faults_of self.new ≡ faults_of self.old) }
+        ensures counted { OnErr result (faults_of self.new ≡ next_count (faults_of self.old)) }
         ensures opened { IsOk result → IsTrue (is_open self.old) }
         ensures stays { is_open self.new ≡ is_open self.old }
     {
@@ -154,7 +163,10 @@ impl Disk for FileDisk {
         ensures later { faults_of self.old ≤ faults_of self.new }
         ensures cause { IsErr result → Rose (faults_of self.old) (faults_of self.new) }
 
-        // No call succeeds where the file couldn't be opened.
+        // A fault is counted once at each failure, and at no other time. No call succeeds where the
+        // file couldn't be opened.
+        ensures uncounted { OnOk result (faults_of self.new ≡ faults_of self.old) }
+        ensures counted { OnErr result (faults_of self.new ≡ next_count (faults_of self.old)) }
         ensures opened { IsOk result → IsTrue (is_open self.old) }
         ensures stays { is_open self.new ≡ is_open self.old }
     {
