@@ -6,3 +6,4 @@ pub mod Reading
 pub mod Loading
 pub mod Unique
 pub mod Each
+pub mod Bytes

@@ -59,3 +59,12 @@ module _ (front : List ℕ) (gate : ℕ) (tail : List ℕ) where
       ap (λ (l : List ℕ). l ++ (byte ∷ []) ++ drop (length front + 1) (front ++ gate ∷ tail)) (take_at front (gate ∷ tail) (length front) refl)
       ∙ ap (λ (l : List ℕ). front ++ (byte ∷ []) ++ l) tail_is
       ∙ append_assoc front (byte ∷ []) tail
+
+  -- a write of the gate and of all behind it
+  pub written_from : (byte : ℕ) (bytes : List ℕ) → overwritten (front ++ gate ∷ tail) (length front) (byte ∷ bytes) ≡ front ++ byte ∷ (bytes ++ drop (length bytes) tail)
+  written_from byte bytes =
+      let same : length front + length (byte ∷ bytes) ≡ length front + 1 + length bytes = omega arith in
+      ap (λ (l : List ℕ). l ++ (byte ∷ bytes) ++ drop (length front + length (byte ∷ bytes)) (front ++ gate ∷ tail)) (take_at front (gate ∷ tail) (length front) refl)
+      ∙ ap (λ (l : List ℕ). front ++ (byte ∷ bytes) ++ l)
+      (ap (λ (n : ℕ). drop n (front ++ gate ∷ tail)) same ∙ sym (drop-drop (length bytes) (length front + 1) (front ++ gate ∷ tail)) ∙ ap (λ (l : List ℕ). drop (length bytes) l) tail_is)
+      ∙ append_assoc front (byte ∷ bytes) (drop (length bytes) tail)

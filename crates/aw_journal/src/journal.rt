@@ -1,5 +1,7 @@
 ghost use Rattle.std.specs.Prelude.{◌≡◌, ◌≤◌, ◌+◌, ◌^◌, ◌++◌, ◌∷◌, [], ℕ, List as Bytes, length, None, Some, IfSome, IsSome, true, false, IfOk, IfErr, IsOk, OnOk, OnErr, IsErr, IsTrue, ◌↔◌, vec_capacity, ◌<◌};
+ghost use Rattle.aw_disk.specs.Calls.{BothTold};
 ghost use Rattle.aw_lists.specs.Faults.{Rose};
+ghost use Rattle.aw_journal.specs.Bytes.{Appended, Repaired};
 ghost use Rattle.aw_journal.specs.Format.{size_bytes, Holds, placed};
 ghost use Rattle.aw_journal.specs.Left.{AllHold, Left};
 ghost use Rattle.aw_journal.specs.Loads.{Explains, disk_of};
@@ -116,6 +118,7 @@ impl<D: Disk> Journal<D> {
         requires some { 1 ≤ length payload.now }
         requires short { length payload.now ≤ 2 ^ 26 }
         ensures moments { Passed (D.clock self.old.disk) (D.clock self.new.disk) (D.crash self.old.disk) (D.crash self.new.disk) (Left self.old.settled (Some payload.now)) }
+        ensures bytes { OnOk result (BothTold (Appended self.old.settled payload.now) (D.content self.old.disk) (D.content self.new.disk)) }
         ensures acknowledged { OnOk result (AllHold (D.crash self.new.disk (D.clock self.new.disk)) (self.old.settled ++ payload.now ∷ [])) }
         ensures ok { OnOk result (self.new ≡ record self.old { disk = self.new.disk; settled = self.old.settled ++ payload.now ∷ []; reserved = self.new.reserved }) }
         ensures err { OnErr result (self.new ≡ record self.old { disk = self.new.disk; doubt = Some payload.now; opening = self.new.opening; reserved = self.new.reserved }) }
@@ -143,6 +146,7 @@ impl<D: Disk> Journal<D> {
     /// doubt is as before.
     pub fn repair(&mut self) -> Result<(), DiskFault>
         ensures moments { Passed (D.clock self.old.disk) (D.clock self.new.disk) (D.crash self.old.disk) (D.crash self.new.disk) (Left self.old.settled self.old.doubt) }
+        ensures bytes { OnOk result (self.old.opening ≡ true → BothTold (Repaired self.old.settled) (D.content self.old.disk) (D.content self.new.disk)) }
         ensures repaired { OnOk result (AllHold (D.crash self.new.disk (D.clock self.new.disk)) self.old.settled) }
         ensures ok { OnOk result (self.new ≡ record self.old { disk = self.new.disk; doubt = None; opening = false }) }
         ensures err { OnErr result (self.new ≡ record self.old { disk = self.new.disk }) }

@@ -5,6 +5,7 @@ use Rattle.aw_journal.specs.Format.{size_bytes}
 use Rattle.aw_journal.specs.Journal.{AtRest, HalfOpen, Stands, doubtful}
 use Rattle.aw_journal.specs.Passed.{Passed-wider, Passed-then}
 use Rattle.aw_journal.specs.declared.journal.Journal.TheInside.{Inside}
+use Rattle.aw_journal.proofs.Bytes.{appended}
 use Rattle.aw_journal.proofs.Frames.{HalfOpen-left, framed-frame}
 use Rattle.aw_journal.proofs.Standing.{at_rest, not_in_doubt, on_ok}
 use Rattle.aw_journal.proofs.Steps.{behind-inside, behind-torn, behind-written, gate-inside, gate-torn, gate-opened, landed}
@@ -149,3 +150,15 @@ returns-clause-ok g c =
     let j = c.self.inside in
     let certain : doubtful j.doubt j.frame.items ≡ None = rw (← c.self.view_is) at c.requires.certain in
     rw (← c.self.view_is) (rw (not_in_doubt j.doubt j.frame.items certain, c.push.ensures) refl)
+
+pub returns-clause-bytes : goal.returns-clause-bytes
+returns-clause-bytes g c =
+    let j = c.self.inside in
+    let certain : doubtful j.doubt j.frame.items ≡ None = rw (← c.self.view_is) at c.requires.certain in
+    let behind : j.gate < 2 ^ 62 → c.saturating_add-behind.result ≡ j.gate + 1 = λ within. omega (arith, within, c.saturating_add-behind.ensures) in
+    let fine = sym c.is_err.ensures.value ∙ c.if-is_err.false in
+    let fine-2 = sym c.is_err-2.ensures.value ∙ c.if-is_err-2.false in
+    rw (← c.self.view_is) (appended j.settled.payloads c.args.payload.now c.as_slice.result.now j.gate (c.as_slice.ensures.value ∙ c.fill_frame.ensures.bytes) c.saturating_add-behind.result
+    (g.D.Disk.content j.disk) (g.D.Disk.content c.put.new.disk) (g.D.Disk.content c.put-2.new.disk)
+    (λ bytes told. rests g j certain c.self.invariant c.saturating_add-behind.result behind bytes (g.met.D.Disk.is_an_image j.disk bytes told)) behind
+    (on_ok c.put.result fine c.put.ensures.written) (on_ok c.put-2.result fine-2 c.put-2.ensures.written))

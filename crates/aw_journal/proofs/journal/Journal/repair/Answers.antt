@@ -2,6 +2,7 @@ use Rattle.std.proofs.Common.{◌≡◌, ◌∷◌, [], ℕ, List, sym, subst, �
 use Rattle.aw_disk.specs.Images.{TornFrom}
 use Rattle.aw_journal.specs.Journal.{HalfOpen, Stands, framed}
 use Rattle.aw_journal.specs.Passed.{Passed-wider, Passed-none}
+use Rattle.aw_journal.proofs.Bytes.{repaired}
 use Rattle.aw_journal.proofs.Frames.{HalfOpen-left}
 use Rattle.aw_journal.proofs.Standing.{Stands-left, on_ok, opens}
 use Rattle.aw_journal.proofs.Steps.{gate-inside, gate-torn, gate-closed, landed}
@@ -72,3 +73,14 @@ returns-clause-moments g c =
 
 pub returns-clause-repaired : goal.returns-clause-repaired
 returns-clause-repaired g c = rw (← c.self.view_is) (λ image left. (invariant_of-self-2 g c image left).holds)
+
+pub returns-clause-bytes : goal.returns-clause-bytes
+returns-clause-bytes g c =
+    let j = c.self.inside in
+    let is : j.doubt ≡ Opening = opens j.doubt c.if-ne.ensures in
+    let payload = framed j.frame.items in
+    let images = λ (image : List ℕ). g.D.Disk.crash j.disk (g.D.Disk.clock j.disk) image in
+    let half : (image : List ℕ) → images image → HalfOpen j.settled.payloads payload j.gate image = λ image left.
+    subst (λ doubt. Stands doubt j.settled.payloads j.frame.items j.gate image) is (c.self.invariant image left) in
+    rw (← c.self.view_is) (λ opening. repaired j.settled.payloads payload j.gate (g.D.Disk.content j.disk) (g.D.Disk.content c.put.new.disk)
+    (λ bytes told. half bytes (g.met.D.Disk.is_an_image j.disk bytes told)) (on_ok c.put.result (sym c.is_err.ensures.value ∙ c.if-is_err.false) c.put.ensures.written))
