@@ -107,6 +107,7 @@ fn mem_disk_keeps_all_moments(rt: HostRuntime) -> Result<(), Fail> {
     let alloc = rt.alloc();
     let disk = written(alloc)?;
     assert_eq!(rt; disk.moments(), 5);
+    crashes_leave_what_is_covered();
     assert!(rt; images_are(alloc, &disk, 0, b"abcd", b"abcd", b"abcd")?);
     assert!(rt; images_are(alloc, &disk, 1, b"aXcd", b"abcd", b"a?cd")?);
     assert!(rt; images_are(alloc, &disk, 2, b"aXcdyz", b"abcd\0\0", b"a?cd??")?);

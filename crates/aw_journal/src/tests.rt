@@ -173,6 +173,7 @@ fn each_moment_of_an_append_has_it_or_not(rt: HostRuntime) -> Result<(), Fail> {
     let made = appended(alloc)?;
     let disk = made.expect(&rt, "the append succeeds");
     assert_eq!(rt; disk.moments(), 6);
+    assert_eq!(rt; disk.bytes(), b"OLAPMW1\n\x01\0\0\0\x03abc\0".as_slice());
     // At the start, loaded, the frame written, synced, the gate written, synced.
     for (moment, counts) in [
         (0, [0, 0, 0, 0]),

@@ -151,6 +151,8 @@ mod tests {
         let low = Coord::of(&[2, 9]).ok_or("two slots")?;
         let high = Coord::of(&[3, 1]).ok_or("two slots")?;
         assert!(rt; low < high);
+        assert!(rt; low.pack() < high.pack());
+        crate::packing_keeps_order();
         assert_eq!(rt; low.max(high), high);
         assert_ne!(rt; low, Coord::of(&[2, 9, 0]).ok_or("three slots")?);
         Ok(())
