@@ -2,7 +2,7 @@
 --
 -- Of each object an attached session has the number of a generation, and three bodies: the base body is that generation, the private
 -- body is the one that it reads and assigns, and the staged body is the one that it would commit. Its views stand in order of definition.
-use Rattle.std.specs.Prelude.{◌&&◌, ◌+◌, ℕ, min, not, List, [], ◌∷◌, map, filter, Some, None, Result, Ok, Err, Bool, true, false, slice_get, slice_index_or, slice_set}
+use Rattle.std.specs.Prelude.{◌&&◌, ◌+◌, ℕ, min, not, List, [], ◌∷◌, map, filter, Some, None, Result, Ok, Err, Bool, true, false, slice_get, slice_index_or, slice_set, ⊤}
 use Rattle.std.specs.Option.{option_map, ok_or}
 use Rattle.aw_cell.specs.declared.cell.Cell.TheVariants.{Int}
 use Rattle.aw_cell.specs.Cell.{same_cell}
@@ -127,3 +127,9 @@ finished definitions names s asked (Stranger object) = (Refused (not_acquired (n
 finished definitions names s asked (Worn object) = (Refused (full (name_at definitions object)), s)
 finished definitions names s asked Fault = (Refused disk_fault, s)
 finished definitions names s asked NoMemory = (Done, s)
+
+-- the replies after which `finish` may want memory: one of which it makes the views, and want of memory itself
+abbrev pub MayWantMemory : Reply → Type 0
+MayWantMemory (Attached fresh) = ⊤
+MayWantMemory NoMemory = ⊤
+MayWantMemory _ = ⊥

@@ -286,7 +286,7 @@ impl Session {
     ///
     /// Refused are a name that isn't defined (1), then a session that isn't attached (15), or for
     /// `AW ATTACH` one that is (16). The only error is want of memory, which leaves the session as
-    /// it was.
+    /// it was; `COMMIT` alone takes any.
     pub fn begin(
         &mut self,
         alloc: Global,
@@ -296,6 +296,7 @@ impl Session {
         ensures begun { IfOk result (λ begun.
             (begun, self.new) ≡ spec.begun definitions.now self.old command.now) }
         ensures err { OnErr result (self.new ≡ self.old) }
+        ensures memory { OnErr result (command.now ≡ Commit) }
     {
         match command {
             Command::Attach => Ok(self.attach()),
@@ -334,7 +335,8 @@ impl Session {
     /// Refused are an object that another session owns (17), one with a newer generation (18), one
     /// that the session doesn't own (19), one whose numbers are used up (22), and a commit in which
     /// the disk failed (30), as the reply says; the session stays as it was. The only error is want of
-    /// memory, here or in the reply, which leaves the session as it was, too.
+    /// memory, in the reply or for the views of a session that attaches, which leaves the session as
+    /// it was, too.
     pub fn finish(
         &mut self,
         alloc: Global,
@@ -347,6 +349,7 @@ impl Session {
             (answer, self.new) ≡ spec.finished definitions.now names.now self.old asked.now reply.now) }
         ensures memory { reply.now ≡ NoMemory → IsErr result }
         ensures err { OnErr result (self.new ≡ self.old) }
+        ensures needs { OnErr result (spec.MayWantMemory reply.now) }
     {
         match reply {
             Reply::Attached(fresh) => {
