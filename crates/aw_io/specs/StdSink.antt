@@ -5,6 +5,7 @@ use Rattle.std.specs.Io.KnownBytes.{Appends}
 use Rattle.aw_io.specs.declared.sink.Gave.{Gave}
 use Rattle.aw_io.specs.declared.sink.Gave.TheVariants.{Put, Failed}
 use Rattle.aw_io.specs.declared.std_sink.StdSink.{StdSink}
+use Rattle.aw_lists.specs.Faults.{next_count}
 
 abbrev pub writer_of : {W : Type 0} → StdSink W → W
 writer_of sink = sink.writer
@@ -16,3 +17,8 @@ faults_of sink = sink.faults
 abbrev pub Writes : Gave → Option (List ℕ) → Option (List ℕ) → List ℕ → Type 0
 Writes (Put n) before now bytes = Appends before now (take n bytes)
 Writes Failed before now bytes = Unit {0}
+
+-- the faults after this answer: one more at a failure, and else as many as before
+abbrev pub faults_after : ℕ → Gave → ℕ
+faults_after faults (Put n) = faults
+faults_after faults Failed = next_count faults

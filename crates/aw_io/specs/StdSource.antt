@@ -5,6 +5,7 @@ use Rattle.std.specs.Io.KnownBytes.{Consumes, IsAtEnd, Keeps}
 use Rattle.aw_io.specs.declared.source.Took.{Took}
 use Rattle.aw_io.specs.declared.source.Took.TheVariants.{Got, End, Failed}
 use Rattle.aw_io.specs.declared.std_source.StdSource.{StdSource}
+use Rattle.aw_lists.specs.Faults.{next_count}
 
 abbrev pub reader_of : {R : Type 0} → StdSource R → R
 reader_of source = source.reader
@@ -17,3 +18,9 @@ abbrev pub Reads : Took → Option (List ℕ) → Option (List ℕ) → List ℕ
 Reads (Got n) before now buffer = Consumes before now (take n buffer)
 Reads End before now buffer = IsAtEnd now
 Reads Failed before now buffer = Keeps before now
+
+-- the faults after this answer: one more at a failure, and else as many as before
+abbrev pub faults_after : ℕ → Took → ℕ
+faults_after faults (Got n) = faults
+faults_after faults End = faults
+faults_after faults Failed = next_count faults

@@ -2,7 +2,7 @@ ghost use Rattle.std.specs.Prelude.{◌≡◌, ◌<◌, ◌≤◌, None, IfOk, l
 ghost use Rattle.std.specs.Io.KnownBytes.{Appends};
 ghost use Rattle.aw_lists.specs.Faults.{Rose};
 ghost use Rattle.aw_io.specs.Sink.{Puts};
-ghost use Rattle.aw_io.specs.StdSink.{Writes, writer_of, faults_of};
+ghost use Rattle.aw_io.specs.StdSink.{Writes, writer_of, faults_of, faults_after};
 
 use crate::sink::{Gave, Sink};
 use std::io;
@@ -37,7 +37,8 @@ impl<W: Write + Drop> Sink for StdSink<W> {
         ensures later { faults_of self.old ≤ faults_of self.new }
         ensures cause { result ≡ Gave.Failed → Rose (faults_of self.old) (faults_of self.new) }
 
-        // Where std knows what the writer holds, it gained these bytes.
+        // Only a failure counts. Where std knows what the writer holds, it gained these bytes.
+        ensures counted { faults_of self.new ≡ faults_after (faults_of self.old) result }
         ensures writes { Writes result (W.contents (writer_of self.old)) (W.contents (writer_of self.new)) bytes.now }
     {
         match write_through(&mut self.writer, bytes) {

@@ -1,7 +1,7 @@
 ghost use Rattle.std.specs.Prelude.{◌≡◌, ◌<◌, ◌≤◌, None, length};
 ghost use Rattle.aw_lists.specs.Faults.{Rose};
 ghost use Rattle.aw_io.specs.Source.{Takes};
-ghost use Rattle.aw_io.specs.StdSource.{Reads, reader_of, faults_of};
+ghost use Rattle.aw_io.specs.StdSource.{Reads, reader_of, faults_of, faults_after};
 
 use crate::source::{Source, Took};
 use std::io::Read;
@@ -35,7 +35,8 @@ impl<R: Read + Drop> Source for StdSource<R> {
         ensures later { faults_of self.old ≤ faults_of self.new }
         ensures cause { result ≡ Took.Failed → Rose (faults_of self.old) (faults_of self.new) }
 
-        // Where std knows what the reader has left, these are its bytes.
+        // Only a failure counts. Where std knows what the reader has left, these are its bytes.
+        ensures counted { faults_of self.new ≡ faults_after (faults_of self.old) result }
         ensures reads { Reads result (R.remaining (reader_of self.old)) (R.remaining (reader_of self.new)) into.new }
     {
         match self.reader.read(into) {
