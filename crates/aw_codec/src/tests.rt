@@ -32,6 +32,44 @@ fn spells_and_reads_a_commit(rt: HostRuntime) -> Result<(), Fail> {
 }
 
 #[test]
+fn spells_and_reads_several_definitions(rt: HostRuntime) -> Result<(), Fail> {
+    let alloc = rt.alloc();
+    let mut names = List::new(alloc);
+    names.push(Text::of(b"v").ok_or("a text")?)?;
+    names.push(Text::of(b"Q1.b").ok_or("a text")?)?;
+    let expected = b"D\x01\x00\x02\x01v\x03\x02\x00\x04Q1.b\x03\x02\x00";
+    let bytes = encode_catalogue(alloc, &names).ok().ok_or("memory")?;
+    assert_eq!(rt; bytes.as_slice(), expected.as_slice());
+    let found = decode(alloc, expected).ok().ok_or("a record")?;
+    assert!(rt; found == Decoded::Definitions(names));
+    Ok(())
+}
+
+#[test]
+fn spells_and_reads_several_changes(rt: HostRuntime) -> Result<(), Fail> {
+    let alloc = rt.alloc();
+    let mut changes = List::new(alloc);
+    changes.push((258, Cell::Na))?;
+    changes.push((65535, Cell::Int(-2)))?;
+    let expected =
+        b"C\x01\x00\x02\x01\x02M\x00\x00\x00\x00\x01\x00\xff\xffM\x00\x00\x00\x00\x01\x02\xff\xff\xff\xfe";
+    let bytes = encode_commit(alloc, &changes).ok().ok_or("memory")?;
+    assert_eq!(rt; bytes.as_slice(), expected.as_slice());
+    let found = decode(alloc, expected).ok().ok_or("a record")?;
+    assert!(rt; found == Decoded::Commit(changes));
+    Ok(())
+}
+
+fn needs_send_and_sync<T: Send + Sync + Drop>(_: T) {}
+
+#[test]
+fn goes_to_another_thread(rt: HostRuntime) {
+    needs_send_and_sync(Decoded::Definitions(List::new(rt.alloc())));
+    needs_send_and_sync(BadRecord::NoMemory);
+    needs_send_and_sync(CodeLong::NoMemory);
+}
+
+#[test]
 fn finds_the_fault_of_definitions(rt: HostRuntime) {
     let cases: [(&[u8], u64); 19] = [
         (b"", 0),
