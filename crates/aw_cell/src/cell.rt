@@ -69,6 +69,7 @@ pub enum Kind {
 #[cfg(test)]
 mod tests {
     use super::*;
+    use crate::{Arith, NumberFault, Operator, Order, Rest, Spread};
     use std::test::Fail;
 
     #[test]
@@ -95,6 +96,11 @@ mod tests {
         needs_send_and_sync(Text::of(b"").ok_or("a text")?);
         needs_send_and_sync(Cell::Na);
         needs_send_and_sync(Kind::Slot);
+        needs_send_and_sync(Order::Eq);
+        needs_send_and_sync(Operator::Spread(Spread::Even));
+        needs_send_and_sync(Rest::First);
+        needs_send_and_sync(Arith::Overflow);
+        needs_send_and_sync(NumberFault::Overflow);
         Ok(())
     }
 }

@@ -45,10 +45,12 @@ impl Read for Stutter {
     }
 }
 
-// Takes a byte a call, up to a limit: at the limit it takes none once, and then it fails.
+// Takes a byte a call, up to a limit: at the limit it takes none once, and then it fails. It counts
+// the bytes that were flushed.
 #[derive(Drop)]
 struct Trickle {
     bytes: Vec<u8>,
+    flushed: usize,
     limit: usize,
     is_stuck: bool,
 }
@@ -69,6 +71,7 @@ impl Write for Trickle {
     }
 
     fn flush(&mut self) -> io::Result<()> {
+        self.flushed = self.bytes.len();
         Ok(())
     }
 }
@@ -102,6 +105,9 @@ fn forms_cross_threads(
     needs_send_and_sync(sure_source);
     needs_send_and_sync(listed_sink);
     needs_send_and_sync(sure_sink);
+    needs_send_and_sync(Took::End);
+    needs_send_and_sync(Gave::Failed);
+    needs_send_and_sync(SinkFault);
 }
 
 #[test]
@@ -168,6 +174,7 @@ fn std_source_fails_in_mid_stream(rt: HostRuntime) -> Result<(), Fail> {
 fn std_sink_fails_where_nothing_is_taken(rt: HostRuntime) -> Result<(), Fail> {
     let mut writer = Trickle {
         bytes: Vec::new(rt.alloc()),
+        flushed: 0,
         limit: 7,
         is_stuck: false,
     };
@@ -176,5 +183,6 @@ fn std_sink_fails_where_nothing_is_taken(rt: HostRuntime) -> Result<(), Fail> {
     assert_eq!(rt; put_all(&mut sink, b", you"), Err(SinkFault));
     assert_eq!(rt; sink.put(b"you"), Gave::Failed);
     assert_eq!(rt; writer.bytes.as_slice(), b"hello, ".as_slice());
+    assert_eq!(rt; writer.flushed, 7);
     Ok(())
 }
