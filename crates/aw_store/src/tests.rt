@@ -2,7 +2,7 @@ use super::*;
 use aw_cell::{Cell, Text};
 use aw_disk::{Disk, MemDisk, Pick, SureDisk};
 use aw_lists::List;
-use mv_core::{Change, Entry, Reply};
+use mv_core::{Change, Entry, Fresh, Reply};
 use std::alloc::Global;
 use std::test::Fail;
 
@@ -55,21 +55,35 @@ fn define_v<D: Disk>(alloc: Global, store: &mut Store<D>) -> Result<bool, NoMemo
     Ok(store.define(names) == Ok(()))
 }
 
-fn acquire_v<D: Disk>(store: &mut Store<D>) -> Reply {
+fn acquire<D: Disk>(store: &mut Store<D>, who: u32, object: u16) -> Reply {
     store.act(&Entry::Acquire {
-        who: 1,
-        object: 0,
+        who,
+        object,
         number: 1,
     })
 }
 
-fn set_v<D: Disk>(alloc: Global, store: &mut Store<D>, value: i32) -> Result<Reply, NoMemory> {
+fn acquire_v<D: Disk>(store: &mut Store<D>) -> Reply {
+    acquire(store, 1, 0)
+}
+
+fn set<D: Disk>(
+    alloc: Global,
+    store: &mut Store<D>,
+    who: u32,
+    object: u16,
+    value: i32,
+) -> Result<Reply, NoMemory> {
     let mut changes = List::new(alloc);
     changes.push(Change {
-        object: 0,
+        object,
         cell: Cell::Int(value),
     })?;
-    Ok(store.act(&Entry::Commit { who: 1, changes }))
+    Ok(store.act(&Entry::Commit { who, changes }))
+}
+
+fn set_v<D: Disk>(alloc: Global, store: &mut Store<D>, value: i32) -> Result<Reply, NoMemory> {
+    set(alloc, store, 1, 0, value)
 }
 
 // Whether a store takes the definition, and a session acquires it.
@@ -148,6 +162,66 @@ fn commits_go_on_after_a_fault(rt: HostRuntime) -> Result<(), Fail> {
     // The repair fails too.
     assert!(rt; goes_on_after_faults(alloc, &[10, 11], 2)?);
     assert!(rt; goes_on_after_faults(alloc, &[9, 11], 2)?);
+    Ok(())
+}
+
+// Whether a store takes the definitions of `v` and `w`, and session 1 acquires `v`.
+fn is_ready_for_two<D: Disk>(alloc: Global, store: &mut Store<D>) -> Result<bool, NoMemory> {
+    let mut names = List::new(alloc);
+    if let (Some(first), Some(second)) = (Text::of(b"v"), Text::of(b"w")) {
+        names.push(first)?;
+        names.push(second)?;
+    }
+    Ok(store.define(names) == Ok(()) && acquire_v(store) == Reply::Acquired)
+}
+
+// Whether session 2 finds `v` as it was and owned by session 1, and acquires `w`.
+fn acts_as_before<D: Disk>(alloc: Global, store: &mut Store<D>) -> Result<bool, NoMemory> {
+    let mut latest = List::new(alloc);
+    for object in 0..2 {
+        latest.push(Fresh {
+            object,
+            number: 1,
+            cell: Cell::Na,
+        })?;
+    }
+    let attached = store.act(&Entry::Attach { who: 2 }) == Reply::Attached(latest);
+    let owned = acquire(store, 2, 0) == Reply::Owned { object: 0, by: 1 };
+    let acquired = acquire(store, 2, 1) == Reply::Acquired;
+    Ok(attached & owned & acquired)
+}
+
+// Whether the disk fails at this call in a commit of `v`, session 2 then acts and makes no disk call,
+// and the disk has its commit of `w` alone in the end.
+fn another_session_goes_on(alloc: Global, failing: u64) -> Result<bool, NoMemory> {
+    let Some(mut store) = load_of(alloc, disk_of(alloc, &EMPTY, &[failing])?) else {
+        return Ok(false);
+    };
+    if !is_ready_for_two(alloc, &mut store)? || set_v(alloc, &mut store, 7)? != Reply::Fault {
+        return Ok(false);
+    }
+    let moments = store.disk().moments();
+    if !acts_as_before(alloc, &mut store)? || store.disk().moments() != moments {
+        return Ok(false);
+    }
+    if set(alloc, &mut store, 2, 1, 9)? != Reply::Committed {
+        return Ok(false);
+    }
+    let image = disk_of(alloc, store.into_disk().bytes(), &[])?;
+    match load_of(alloc, image) {
+        Some(loaded) => Ok(
+            (seen(&loaded, 0) == Some((1, None, Cell::Na)))
+                & (seen(&loaded, 1) == Some((2, None, Cell::Int(9)))),
+        ),
+        None => Ok(false),
+    }
+}
+
+#[test]
+fn another_session_ends_a_doubt(rt: HostRuntime) -> Result<(), Fail> {
+    for call in 7..11u64 {
+        assert!(rt; another_session_goes_on(rt.alloc(), call)?, "at {call}");
+    }
     Ok(())
 }
 
