@@ -1,5 +1,5 @@
 -- Records: what they may be, and how each is spelled.
-use Rattle.std.specs.Prelude.{ℕ, ◌<◌, ◌≤◌, ◌≢◌, ◌+◌, ◌^◌, ◌++◌, ◌&&◌, Bool, true, false, not, List, [], ◌∷◌, length, All, IsTrue, nat_le, negsuc, FitsSigned, ⊤}
+use Rattle.std.specs.Prelude.{ℕ, ◌<◌, ◌≤◌, ◌≢◌, ◌+◌, ◌^◌, ◌++◌, ◌&&◌, Bool, true, not, List, [], ◌∷◌, length, All, IsTrue, nat_le, negsuc, FitsSigned, ⊤}
 use Rattle.std.specs.List.{flat_map, list_all, list_any}
 use Rattle.std.specs.Int.{w16, w32, to_be_bytes, cast_unsigned}
 use Rattle.aw_cell.specs.declared.cell.Cell.{Cell}

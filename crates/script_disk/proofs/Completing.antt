@@ -1,16 +1,12 @@
 -- A formatted disk that doesn't fail is opened, where there is memory.
-use Rattle.std.specs.Prelude.{◌≡◌, ◌++◌, ◌⊎◌, ℕ, List, [], ◌∷◌, Option, None, Some, IsSome, IfSome, refl}
+use Rattle.std.specs.Prelude.{◌≡◌, ◌++◌, ℕ, List, [], ◌∷◌, Option, None, Some, IsSome, refl}
 use Rattle.std.proofs.Common.{sym, inl, inr, ⊎_elim}
 use Rattle.std.proofs.lemmas.Bool.{true≢false}
-use Rattle.aw_codec.specs.declared.record.Decoded.{Decoded}
 use Rattle.aw_journal.specs.Format.{IsUnformatted}
-use Rattle.aw_store.specs.Images.{HoldsRecords, IsDamaged}
+use Rattle.aw_store.specs.Images.{IsDamaged}
 use Rattle.aw_store.proofs.Reading.{reads_records_one_way}
 use Rattle.script_disk.specs.Dumped.{EndsDump, CompletesDump}
 use Rattle.script_disk.specs.Formatted.{AreFormatted}
-use Rattle.script_disk.specs.Opened.{IsUnopened}
-use Rattle.script_disk.specs.declared.opening.Unopened.{Unopened}
-use Rattle.script_disk.specs.declared.opening.Unopened.TheVariants as unopened
 
 -- an image that holds records is no other
 pub not_unformatted : (images : List ℕ → Type 0) (image : List ℕ) → AreFormatted images → images image → IsUnformatted image → ⊥

@@ -1,7 +1,7 @@
 -- A run on a formatted disk in which no device failed.
-use Rattle.std.specs.Prelude.{◌≡◌, ◌≤◌, ◌+◌, ◌⊎◌, ℕ, List, [], Option, None, Some, IsSome, IfSome, refl}
+use Rattle.std.specs.Prelude.{◌≡◌, ◌⊎◌, ℕ, List, [], Option, None, Some, IsSome, refl}
 use Rattle.std.specs.List.{count_by}
-use Rattle.std.proofs.Common.{◌∙◌, sym, subst, inl, inr, ⊎_elim, arith}
+use Rattle.std.proofs.Common.{sym, subst, inl, inr, ⊎_elim, arith}
 use Rattle.std.proofs.lemmas.Bool.{true≢false}
 use Rattle.aw_lists.specs.Faults.{Rose}
 use Rattle.script_disk.specs.Formatted.{AreFormatted}
@@ -21,7 +21,7 @@ use Rattle.script_play.specs.declared.ending.Ending.TheVariants.{Accepted, Refus
 use Rattle.script_play.specs.Statuses.{status_of}
 use Rattle.script_play.specs.Reading.{Streams}
 use Rattle.script_play.specs.Turning.{FewFaults}
-use Rattle.script_play.specs.Ends.{EndsSo, Contents, WasOpened, NotOpened, Plays, Completes}
+use Rattle.script_play.specs.Ends.{EndsSo, Contents, Plays, Completes}
 
 -- no outcome is a fault where no fault was counted
 no_faults : (outcomes : List Outcome) (before now : ℕ) → FewFaults outcomes before now → (Rose before now → ⊥) → count_by has_faulted outcomes ≡ 0

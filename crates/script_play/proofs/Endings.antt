@@ -1,5 +1,5 @@
 -- How a run ends, told over the commits and the owners.
-use Rattle.std.specs.Prelude.{◌≡◌, ◌≤◌, ◌++◌, ℕ, Bool, true, false, List, [], ◌∷◌, length, take, Option, None, Some, IfSome, IsTrue, unwrap_or, refl}
+use Rattle.std.specs.Prelude.{◌≡◌, ◌≤◌, ◌++◌, ℕ, Bool, true, false, List, [], ◌∷◌, length, take, Option, None, Some, IfSome, unwrap_or, refl}
 use Rattle.std.specs.Option.{option_map}
 use Rattle.std.proofs.Common.{◌∙◌, ap, sym, subst, inl, inr, ⊎_elim, arith, length-append}
 use Rattle.std.proofs.lemmas.List.{take_at}
@@ -34,7 +34,7 @@ use Rattle.script_play.specs.declared.ending.Ending.TheVariants.{Accepted, Refus
 use Rattle.script_play.specs.declared.world.StoreWorld.{StoreWorld}
 use Rattle.script_play.specs.Statuses.{most_bytes, status_of}
 use Rattle.script_play.specs.StoreWorlds.{world_of, IsSound}
-use Rattle.script_play.specs.Turning.{FewFaults, defining, Later}
+use Rattle.script_play.specs.Turning.{FewFaults, defining}
 use Rattle.script_play.specs.Playing.{Play, Stands, HasDone, WasCut, HasFailed, HasPlayed, HasFinished}
 use Rattle.script_play.specs.Reading.{Streams, streams, BrokeOff, RanOver, EndsRun, EndsFrom}
 use Rattle.script_play.specs.Ends.{IsFront, AreLines, IsWhole, IsCut, IsUndefined, EndsSo, contents, WasOpened, Plays}

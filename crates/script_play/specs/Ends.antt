@@ -1,5 +1,5 @@
 -- How a run of `play` ends, by its status: what it took of the script, what it wrote, and what it left on the disk.
-use Rattle.std.specs.Prelude.{◌≡◌, ◌≤◌, ◌<◌, ◌+◌, ◌++◌, ◌⊎◌, ◌∷◌, ℕ, Bool, true, false, List, [], length, take, Option, None, IfSome, IsTrue}
+use Rattle.std.specs.Prelude.{◌≡◌, ◌≤◌, ◌<◌, ◌+◌, ◌++◌, ◌⊎◌, ◌∷◌, ℕ, Bool, true, false, List, [], length, take, Option, None, IfSome}
 use Rattle.std.specs.Io.KnownBytes.{IsAtEnd}
 use Rattle.aw_io.specs.Known.{Gives, Grows, GrowsByFront}
 use Rattle.aw_codec.specs.declared.record.Decoded.{Decoded}

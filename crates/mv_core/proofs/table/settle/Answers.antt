@@ -1,4 +1,4 @@
-use Rattle.std.proofs.Common.{◌≡◌, ◌∙◌, sym, ap, subst}
+use Rattle.std.proofs.Common.{◌∙◌, sym, ap, subst}
 use Rattle.mv_core.specs.Integers.{integers}
 use Rattle.mv_core.specs.SharedStep.{reply_of}
 use Rattle.mv_core.specs.Applying.{IsReady}
