@@ -442,60 +442,23 @@ fn a_commit_after_a_disk_fault_repairs(rt: HostRuntime) -> Result<(), Fail> {
     Ok(())
 }
 
+// Whether a run of one word on a disk with these bytes has this status, writes this text and keeps the
+// bytes.
+fn keeps(alloc: Global, word: &[u8], bytes: &[u8], status: u8, text: &[u8]) -> Result<bool, Fail> {
+    leaves(alloc, word, FIRST_COURSE, bytes, None, status, text, bytes)
+}
+
 #[test]
 fn other_disks(rt: HostRuntime) -> Result<(), Fail> {
     let alloc = rt.alloc();
     let cut = &COMMITTED[..30];
-    assert!(rt;
-        leaves(
-            alloc,
-            b"play",
-            FIRST_COURSE,
-            b"OLAPM",
-            None,
-            7,
-            b"NOT A WORKSPACE\n",
-            b"OLAPM"
-        )?
-    );
-    assert!(rt;
-        leaves(
-            alloc,
-            b"play",
-            FIRST_COURSE,
-            cut,
-            None,
-            8,
-            b"DAMAGED 22\n",
-            cut
-        )?
-    );
     let earlier = &COMMITTED[..22];
-    assert!(rt;
-        leaves(
-            alloc,
-            b"dump",
-            b"",
-            earlier,
-            None,
-            8,
-            b"DAMAGED 8\n",
-            earlier
-        )?
-    );
+    assert!(rt; keeps(alloc, b"play", b"OLAPM", 7, b"NOT A WORKSPACE\n")?);
+    assert!(rt; keeps(alloc, b"play", cut, 8, b"DAMAGED 22\n")?);
+    assert!(rt; keeps(alloc, b"dump", cut, 8, b"DAMAGED 22\n")?);
+    assert!(rt; keeps(alloc, b"dump", earlier, 8, b"DAMAGED 8\n")?);
+    assert!(rt; keeps(alloc, b"new", cut, 9, b"ALREADY A WORKSPACE\n")?);
     assert!(rt; leaves(alloc, b"new", b"", b"", None, 0, b"ok\n", EMPTY)?);
-    assert!(rt;
-        leaves(
-            alloc,
-            b"new",
-            b"",
-            cut,
-            None,
-            9,
-            b"ALREADY A WORKSPACE\n",
-            cut
-        )?
-    );
     Ok(())
 }
 
