@@ -16,6 +16,8 @@ pub mod RecordedTurns
 pub mod FittingWorlds
 pub mod Opening
 pub mod Isolation
+pub mod Refusing
+pub mod Answering
 pub mod Extending
 pub mod Reading
 pub mod ReadingOn

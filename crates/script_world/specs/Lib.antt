@@ -10,7 +10,9 @@ pub mod Matching
 pub mod Isolation
 pub mod Extending
 pub mod Reading
+pub mod Refusing
 pub mod Acquiring
+pub mod Answering
 pub mod FaultLines
 pub mod AllDone
 pub mod CrashRuns

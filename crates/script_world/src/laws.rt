@@ -10,6 +10,7 @@ ghost use Rattle.aw_store.specs.Replay.{workspace_of};
 ghost use Rattle.script_world.specs.Acknowledging.{LeavesAllDone};
 ghost use Rattle.script_world.specs.Acquiring.{AcquiresAreAnswered};
 ghost use Rattle.script_world.specs.Alike.{AreAlike};
+ghost use Rattle.script_world.specs.Answering.{CommandsAreAnswered};
 ghost use Rattle.script_world.specs.AllDone.{AreDone, IsAsWithNone};
 ghost use Rattle.script_world.specs.CrashRuns.{LeavesARun, LeavesWhatOpens};
 ghost use Rattle.script_world.specs.Extending.{CommitsExtend, GrantsHaveLatest};
@@ -20,6 +21,7 @@ ghost use Rattle.script_world.specs.Learning.{outcomes_in, world_with, IsToldOnc
 ghost use Rattle.script_world.specs.Matching.{CanBeOpened, RecordsMatch};
 ghost use Rattle.script_world.specs.Outcomes.{Outcome, Attempt, OnDisk, history_machine, objects_machine};
 ghost use Rattle.script_world.specs.Reading.{AttachGivesLatest, OwnCommandsMove, ShowsWhatIsRead, ReadItsOwn};
+ghost use Rattle.script_world.specs.Refusing.{RefusalChangesNothing};
 ghost use Rattle.script_world.specs.Transcript.{world_at};
 ghost use Rattle.script_world.specs.Worlds.{World};
 
@@ -68,6 +70,20 @@ pub fn sessions_read_their_own()
 /// sees changes by its own lines alone. See docs/SHARING.md, 'What is proved'.
 pub fn lines_keep_other_sessions()
     ensures { (coming : List Outcome) (w : World (OnDisk (Workspace Change))) (line : List ℕ) → KeepsOthers coming w line }
+{}
+
+/// A command is refused with 1 where it names an object that isn't defined; else with 15 where its
+/// session isn't attached, or with 16 where it is an AW ATTACH of one that is. UPDATE of an attached
+/// session is answered `ok`. See docs/SHARING.md, 'What is proved'.
+pub fn commands_are_answered()
+    ensures { (coming : List Outcome) → CommandsAreAnswered coming }
+{}
+
+/// A refused line changes nothing: the definitions, the commits, the owners and what each session
+/// holds are as before. A line with a session's name may still name a new session and close the
+/// definitions. See docs/SHARING.md, 'What is proved'.
+pub fn refusals_change_nothing()
+    ensures { (coming : List Outcome) (w : World (OnDisk (Workspace Change))) (line : List ℕ) → RefusalChangesNothing coming w line }
 {}
 
 /// After any lines of a script, the definitions, the commits and so the generations are those of the

@@ -6,8 +6,8 @@
 mod laws;
 
 pub use laws::{
-    acknowledged_records_are_left, acquires_are_answered, commits_extend_the_latest,
-    crashes_leave_what_a_run_settles, done_outcomes_change_nothing, faults_are_seen,
-    grants_have_the_latest, lines_keep_other_sessions, objects_answer_as_commits, records_match,
-    sessions_read_their_own, text_is_told_once, views_fit,
+    acknowledged_records_are_left, acquires_are_answered, commands_are_answered,
+    commits_extend_the_latest, crashes_leave_what_a_run_settles, done_outcomes_change_nothing,
+    faults_are_seen, grants_have_the_latest, lines_keep_other_sessions, objects_answer_as_commits,
+    records_match, refusals_change_nothing, sessions_read_their_own, text_is_told_once, views_fit,
 };

@@ -1,0 +1,101 @@
+-- Which refusal of a command comes first.
+use Rattle.std.specs.Prelude.{◌≡◌, ℕ, true, false, List, map, filter, Option, None, Some, Result, Ok, Err, is_none, slice_get, refl}
+use Rattle.std.specs.Option.{ok_or}
+use Rattle.std.proofs.Common.{ap, sym}
+use Rattle.std.proofs.lemmas.Bool.{true≢false}
+use Rattle.aw_cell.specs.declared.cell.Cell.TheVariants.{Int}
+use Rattle.mv_core.specs.declared.entry.Change.{Change}
+use Rattle.mv_core.specs.declared.entry.Entry.TheVariants as entry
+use Rattle.mv_core.specs.Workspace.{Workspace}
+use Rattle.ses_step.specs.declared.answer.Answer.{Answer}
+use Rattle.ses_step.specs.declared.answer.Answer.TheVariants.{Done, Shown, Refused}
+use Rattle.ses_step.specs.declared.answer.Refusal.{Refusal}
+use Rattle.ses_step.specs.declared.line.Command.{Command}
+use Rattle.ses_step.specs.declared.line.Command.TheVariants as command
+use Rattle.ses_step.specs.declared.session.Begun.{Begun}
+use Rattle.ses_step.specs.declared.session.Begun.TheVariants.{Said, Ask}
+use Rattle.ses_step.specs.declared.session.Session.{Session}
+use Rattle.ses_step.specs.declared.session.View.{View}
+use Rattle.ses_step.specs.Answers.{no_form, not_attached, already_attached}
+use Rattle.ses_step.specs.Sessions.{located, with_view, updated, commit_asked, is_staged, change_of_view}
+use Rattle.ses_step.specs.Words.{place_of}
+use Rattle.script_world.specs.Answering.{AnswersInOrder, CommandsAreAnswered}
+use Rattle.script_world.specs.Worlds.{turn_from, turn}
+use Rattle.script_world.specs.Outcomes.{Outcome, OnDisk, by_history}
+
+module _ (coming : List Outcome) (definitions names : List (List ℕ)) (disk : OnDisk (Workspace Change)) (s : Session) where
+  abbrev by_views : ℕ → Option (List View) → Result View Refusal
+  by_views object those = elim those [ None ↦ Err not_attached | Some views ↦ ok_or (slice_get views object) no_form ]
+
+  abbrev by_place : Option ℕ → Result View Refusal
+  by_place place = elim place [ None ↦ Err no_form | Some object ↦ elim s.views [ None ↦ Err not_attached | Some views ↦ ok_or (slice_get views object) no_form ] ]
+
+  place-unknown : (place : Option ℕ) → is_none place ≡ true → by_place place ≡ Err no_form
+  place-unknown None none = refl
+  place-unknown (Some object) none = absurd (true≢false (sym none))
+
+  place-unattached : (place : Option ℕ) → is_none place ≡ false → s.views ≡ None → by_place place ≡ Err not_attached
+  place-unattached None known detached = absurd (true≢false known)
+  place-unattached (Some object) known detached = ap (by_views object) detached
+
+  located-unknown : (name : List ℕ) → is_none (place_of definitions name) ≡ true → located definitions s name ≡ Err no_form
+  located-unknown name none = place-unknown (place_of definitions name) none
+
+  located-unattached : (name : List ℕ) → is_none (place_of definitions name) ≡ false → s.views ≡ None → located definitions s name ≡ Err not_attached
+  located-unattached name known detached = place-unattached (place_of definitions name) known detached
+
+  abbrev said : Begun × Session → Answer
+  said b = (turn_from (by_history coming) definitions names disk b).answer
+
+  in_order : (own : Command) → AnswersInOrder definitions s own (turn (by_history coming) definitions names disk s own).answer
+  in_order (command.Acquire name) =
+      let answer : Result View Refusal → Answer = λ found. said (elim found [ Err refusal ↦ (Said (Refused refusal), s) | Ok view ↦ (Ask (entry.Acquire s.who view.object view.number), s) ]) in
+      record {
+        unknown = λ none. ap answer (located-unknown name none);
+        unattached = λ known differs detached. ap answer (located-unattached name known detached);
+        again = λ views is. let other : ⊥ = cc in absurd other;
+        updated = λ views is. let other : ⊥ = cc in absurd other;
+      }
+  in_order (command.Assign name value) =
+      let answer : Result View Refusal → Answer = λ found. said (elim found [ Err refusal ↦ (Said (Refused refusal), s) | Ok view ↦ (Said Done, with_view s (record view { private = Int value })) ]) in
+      record {
+        unknown = λ none. ap answer (located-unknown name none);
+        unattached = λ known differs detached. ap answer (located-unattached name known detached);
+        again = λ views is. let other : ⊥ = cc in absurd other;
+        updated = λ views is. let other : ⊥ = cc in absurd other;
+      }
+  in_order (command.Show name) =
+      let answer : Result View Refusal → Answer = λ found. said (elim found [ Err refusal ↦ (Said (Refused refusal), s) | Ok view ↦ (Said (Shown view.private), s) ]) in
+      record {
+        unknown = λ none. ap answer (located-unknown name none);
+        unattached = λ known differs detached. ap answer (located-unattached name known detached);
+        again = λ views is. let other : ⊥ = cc in absurd other;
+        updated = λ views is. let other : ⊥ = cc in absurd other;
+      }
+  in_order command.Attach =
+      let answer : Option (List View) → Answer = λ those. said (elim those [ None ↦ (Ask (entry.Attach s.who), s) | Some views ↦ (Said (Refused already_attached), s) ]) in
+      record {
+        unknown = λ none. absurd (true≢false (sym none));
+        unattached = λ known differs. absurd (differs refl);
+        again = λ views is attached. ap answer attached;
+        updated = λ views is. let other : ⊥ = cc in absurd other;
+      }
+  in_order command.Update =
+      let answer : Option (List View) → Answer = λ those. said (elim those [ None ↦ (Said (Refused not_attached), s) | Some views ↦ (Said Done, record s { views = Some (map updated views) }) ]) in
+      record {
+        unknown = λ none. absurd (true≢false (sym none));
+        unattached = λ known differs detached. ap answer detached;
+        again = λ views is. let other : ⊥ = cc in absurd other;
+        updated = λ views is attached. ap answer attached;
+      }
+  in_order command.Commit =
+      let answer : Option (List View) → Answer = λ those. said (elim those [ None ↦ (Said (Refused not_attached), s) | Some views ↦ commit_asked s (map change_of_view (filter is_staged views)) ]) in
+      record {
+        unknown = λ none. absurd (true≢false (sym none));
+        unattached = λ known differs detached. ap answer detached;
+        again = λ views is. let other : ⊥ = cc in absurd other;
+        updated = λ views is. let other : ⊥ = cc in absurd other;
+      }
+
+pub commands_answered : (coming : List Outcome) → CommandsAreAnswered coming
+commands_answered coming definitions names disk s own = in_order coming definitions names disk s own
