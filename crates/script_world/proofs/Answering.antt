@@ -1,8 +1,9 @@
 -- Which refusal of a command comes first.
-use Rattle.std.specs.Prelude.{◌≡◌, ℕ, true, false, List, map, filter, Option, None, Some, Result, Ok, Err, is_none, slice_get, refl}
+use Rattle.std.specs.Prelude.{Err, List, None, Ok, Option, Result, Some, false, filter, is_none, length, map, refl, slice_get, true, ℕ, ℤ, ◌<◌, ◌≡◌}
 use Rattle.std.specs.Option.{ok_or}
-use Rattle.std.proofs.Common.{ap, sym}
+use Rattle.std.proofs.Common.{ap, sym, subst, ⊎_elim, arith}
 use Rattle.std.proofs.lemmas.Bool.{true≢false}
+use Rattle.std.proofs.lemmas.Option.{slice_get_cases}
 use Rattle.aw_cell.specs.declared.cell.Cell.TheVariants.{Int}
 use Rattle.mv_core.specs.declared.entry.Change.{Change}
 use Rattle.mv_core.specs.declared.entry.Entry.TheVariants as entry
@@ -19,7 +20,13 @@ use Rattle.ses_step.specs.declared.session.View.{View}
 use Rattle.ses_step.specs.Answers.{no_form, not_attached, already_attached}
 use Rattle.ses_step.specs.Sessions.{located, with_view, updated, commit_asked, is_staged, change_of_view}
 use Rattle.ses_step.specs.Words.{place_of}
-use Rattle.script_world.specs.Answering.{AnswersInOrder, CommandsAreAnswered}
+use Rattle.aw_codec.specs.declared.record.Decoded.{Decoded}
+use Rattle.script_world.specs.Answering.{AnswersInOrder, CommandsAreAnswered, AssignmentsAreDone}
+use Rattle.script_world.specs.Fit.{ViewsFit, SharedFits}
+use Rattle.script_world.specs.Matching.{CanBeOpened}
+use Rattle.script_world.specs.Transcript.{world_at}
+use Rattle.script_world.proofs.Opening.{fits_at, found_at_number}
+use Rattle.script_world.proofs.Reading.{place_of-within}
 use Rattle.script_world.specs.Worlds.{turn_from, turn}
 use Rattle.script_world.specs.Outcomes.{Outcome, OnDisk, by_history}
 
@@ -99,3 +106,25 @@ module _ (coming : List Outcome) (definitions names : List (List ℕ)) (disk : O
 
 pub commands_answered : (coming : List Outcome) → CommandsAreAnswered coming
 commands_answered coming definitions names disk s own = in_order coming definitions names disk s own
+
+-- ---- an assignment
+
+module _ (coming : List Outcome) (definitions names : List (List ℕ)) (sessions : List Session) (disk : OnDisk (Workspace Change)) (s : Session) (fits : SharedFits definitions sessions disk.state) (own_place : slice_get sessions s.who ≡ Some s) (views : List View) (attached : s.views ≡ Some views) (value : ℤ) where
+  abbrev IsDone : Result View Refusal → Type 0
+  IsDone found = said coming definitions names disk s (elim found [ Err refusal ↦ (Said (Refused refusal), s) | Ok view ↦ (Said Done, with_view s (record view { private = Int value })) ]) ≡ Done
+
+  done_at : (object : ℕ) → object < length views → IsDone (ok_or (slice_get views object) no_form)
+  done_at object inside =
+      ⊎_elim (λ found. subst (λ (view : Option View). IsDone (ok_or view no_form)) (sym found.2) refl) (λ past. absurd (omega (arith, inside, past.0))) (slice_get_cases views object).1
+
+  done_place : (name : List ℕ) (place : Option ℕ) → place_of definitions name ≡ place → is_none place ≡ false → IsDone (by_place coming definitions names disk s place)
+  done_place name None is known = absurd (true≢false known)
+  done_place name (Some object) is known =
+      let fit : ViewsFit disk.state s.who views = (fits.each s.who s own_place).views views attached in
+      let inside : object < length views = omega (arith, place_of-within definitions name object is, fits.objects, fit.count) in
+      subst (λ (those : Option (List View)). IsDone (by_views coming definitions names disk s object those)) (sym attached) (done_at object inside)
+
+pub assignments_done : (records : List Decoded) (coming : List Outcome) (lines : List (List ℕ)) → CanBeOpened records → AssignmentsAreDone coming (world_at records coming lines)
+assignments_done records coming lines can disk who session views is found attached name value known =
+    let w = world_at records coming lines in
+    done_place coming w.definitions w.names w.sessions disk session (fits_at records coming lines can disk is) (found_at_number records coming lines can disk who session is found) views attached value name (place_of w.definitions name) refl known

@@ -1,5 +1,5 @@
 -- Which refusal of a command comes first, and what a command is answered that asks nothing of the shared state.
-use Rattle.std.specs.Prelude.{◌≡◌, ◌≢◌, ℕ, Bool, true, false, List, None, Some, is_none}
+use Rattle.std.specs.Prelude.{◌≡◌, ◌≢◌, ℕ, ℤ, Bool, true, false, List, None, Some, is_none}
 use Rattle.mv_core.specs.declared.entry.Change.{Change}
 use Rattle.mv_core.specs.Workspace.{Workspace}
 use Rattle.ses_step.specs.declared.answer.Answer.{Answer}
@@ -10,7 +10,8 @@ use Rattle.ses_step.specs.declared.session.Session.{Session}
 use Rattle.ses_step.specs.declared.session.View.{View}
 use Rattle.ses_step.specs.Answers.{no_form, not_attached, already_attached}
 use Rattle.ses_step.specs.Words.{place_of}
-use Rattle.script_world.specs.Worlds.{turn}
+use Rattle.script_world.specs.Extending.{ForAttached}
+use Rattle.script_world.specs.Worlds.{World, turn}
 use Rattle.script_world.specs.Outcomes.{Outcome, OnDisk, by_history}
 
 -- the command names an object that isn't defined
@@ -31,3 +32,8 @@ pub record AnswersInOrder (definitions : List (List ℕ)) (session : Session) (o
 abbrev pub CommandsAreAnswered : List Outcome → Type 0
 CommandsAreAnswered coming =
     (definitions names : List (List ℕ)) (disk : OnDisk (Workspace Change)) (session : Session) (own : Command) → AnswersInOrder definitions session own (turn (by_history coming) definitions names disk session own).answer
+
+-- an attached session's assignment to a defined object is answered `ok`
+abbrev pub AssignmentsAreDone : List Outcome → World (OnDisk (Workspace Change)) → Type 0
+AssignmentsAreDone coming w =
+    ForAttached w (λ disk session views. (name : List ℕ) (value : ℤ) → is_none (place_of w.definitions name) ≡ false → (turn (by_history coming) w.definitions w.names disk session (command.Assign name value)).answer ≡ Done)

@@ -10,7 +10,7 @@ ghost use Rattle.aw_store.specs.Replay.{workspace_of};
 ghost use Rattle.script_world.specs.Acknowledging.{LeavesAllDone};
 ghost use Rattle.script_world.specs.Acquiring.{AcquiresAreAnswered};
 ghost use Rattle.script_world.specs.Alike.{AreAlike};
-ghost use Rattle.script_world.specs.Answering.{CommandsAreAnswered};
+ghost use Rattle.script_world.specs.Answering.{CommandsAreAnswered, AssignmentsAreDone};
 ghost use Rattle.script_world.specs.AllDone.{AreDone, IsAsWithNone};
 ghost use Rattle.script_world.specs.CrashRuns.{LeavesARun, LeavesWhatOpens};
 ghost use Rattle.script_world.specs.Extending.{CommitsExtend, GrantsHaveLatest};
@@ -74,9 +74,11 @@ pub fn lines_keep_other_sessions()
 
 /// A command is refused with 1 where it names an object that isn't defined; else with 15 where its
 /// session isn't attached, or with 16 where it is an AW ATTACH of one that is. UPDATE of an attached
-/// session is answered `ok`. See docs/SHARING.md, 'What is proved'.
+/// session is answered `ok`, and after any lines of a script so is its assignment to a defined object.
+/// See docs/SHARING.md, 'What is proved'.
 pub fn commands_are_answered()
-    ensures { (coming : List Outcome) → CommandsAreAnswered coming }
+    ensures in_order { (coming : List Outcome) → CommandsAreAnswered coming }
+    ensures assigned { (records : List Decoded) (coming : List Outcome) (lines : List (List ℕ)) → CanBeOpened records → AssignmentsAreDone coming (world_at records coming lines) }
 {}
 
 /// A refused line changes nothing: the definitions, the commits, the owners and what each session
