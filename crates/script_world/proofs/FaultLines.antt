@@ -1,13 +1,12 @@
 -- A line is refused with 30 exactly where the disk failed in its commit.
-use Rattle.std.specs.Prelude.{◌≡◌, ◌==◌, ◌+◌, ◌++◌, ℕ, ℤ, Bool, true, false, cond, List, [], ◌∷◌, length, map, filter, Option, None, Some, Result, Ok, Err, nat_lt, slice_get, slice_index_or, unwrap_or, if◌then◌else◌, refl}
-use Rattle.std.specs.Option.{ok_or, option_map, ForSome}
+use Rattle.std.specs.Prelude.{◌≡◌, ◌==◌, ◌+◌, ◌++◌, ℕ, Bool, true, false, cond, List, [], ◌∷◌, length, Option, None, Some, nat_lt, slice_get, slice_index_or, unwrap_or, if◌then◌else◌, refl}
+use Rattle.std.specs.Option.{option_map, ForSome}
 use Rattle.std.specs.List.{count_by}
-use Rattle.std.proofs.Common.{◌∙◌, ap, sym, subst, arith}
+use Rattle.std.proofs.Common.{◌∙◌, ap, sym, subst, ⊎_elim, arith}
 use Rattle.std.proofs.lemmas.Bool.{true≢false}
 use Rattle.std.proofs.lemmas.List.Sums.{sum_by-append}
 use Rattle.std.proofs.lemmas.Option.{none-some, same_Some}
 use Rattle.aw_cell.specs.declared.cell.Cell.{Cell}
-use Rattle.aw_cell.specs.declared.cell.Cell.TheVariants.{Int}
 use Rattle.aw_codec.specs.declared.record.Decoded.{Decoded}
 use Rattle.mv_core.specs.declared.entry.Change.{Change}
 use Rattle.mv_core.specs.declared.entry.Entry.{Entry}
@@ -20,20 +19,17 @@ use Rattle.mv_core.specs.SharedStep.{reply_of, writes}
 use Rattle.mv_core.specs.Workspace.{Workspace, standing}
 use Rattle.aw_store.specs.Replay.{names_of, workspace_of}
 use Rattle.aw_store.specs.Stores.{record_of}
-use Rattle.ses_step.specs.declared.answer.Answer.TheVariants.{Done, Shown, Refused}
+use Rattle.ses_step.specs.declared.answer.Answer.TheVariants.{Refused}
 use Rattle.ses_step.specs.declared.answer.Refusal.{Refusal}
 use Rattle.ses_step.specs.declared.line.Line.{Line}
 use Rattle.ses_step.specs.declared.line.Line.TheVariants as line
 use Rattle.ses_step.specs.declared.line.Command.{Command}
-use Rattle.ses_step.specs.declared.line.Command.TheVariants as command
 use Rattle.ses_step.specs.declared.session.Begun.{Begun}
 use Rattle.ses_step.specs.declared.session.Begun.TheVariants.{Said, Ask}
 use Rattle.ses_step.specs.declared.session.Session.{Session}
-use Rattle.ses_step.specs.declared.session.View.{View}
-use Rattle.ses_step.specs.Answers.{answer_line, no_form, not_attached, already_attached, disk_fault}
+use Rattle.ses_step.specs.Answers.{answer_line, disk_fault}
 use Rattle.ses_step.specs.Lines.{line_form}
-use Rattle.ses_step.specs.Sessions.{new_session, begun, finished, located, with_view, updated, commit_asked, is_staged, change_of_view, name_at}
-use Rattle.ses_step.specs.Words.{place_of}
+use Rattle.ses_step.specs.Sessions.{new_session, begun, finished, name_at}
 use Rattle.script_world.specs.Worlds.{World, Turn, turn_from, turn, Answered, silent, refused_as_no_form, no_session, can_define, defined, session_place, with_session, shared_of, closed, commanded, session_answered, line_answered, answered}
 use Rattle.script_world.specs.Outcomes.{Outcome, done, faulted, Attempt, OnDisk, unwritten, written, history_machine, by_history}
 use Rattle.script_world.specs.Learning.{outcomes_of}
@@ -41,6 +37,7 @@ use Rattle.script_world.specs.Transcript.{opening, world_after, world_at, attemp
 use Rattle.script_world.specs.FaultLines.{is_fault, tells_fault, fault_lines, has_faulted, faults_in, SeesFaults, NextSeesFaults, FaultsAreSeen}
 use Rattle.script_world.proofs.Learning.{one_more as outcomes_of-more}
 use Rattle.script_world.proofs.Simulation.{HoldsOf, lines_alike}
+use Rattle.script_world.proofs.Begins.{IsOwn, begins}
 use Rattle.script_world.proofs.DiskTurns.{unwritten_turn, done_turn, faulted_turn, Writes, turn-cases}
 use Rattle.script_world.proofs.FittingTurns.{acquire_reply-cases, commit_reply-cases}
 
@@ -73,61 +70,14 @@ abbrev SaysPlain : Begun → Type 0
 SaysPlain (Said answer) = is_fault answer ≡ false
 SaysPlain (Ask asked) = Unit {0}
 
-abbrev RefusesPlain : Result View Refusal → Type 0
-RefusesPlain (Ok view) = Unit {0}
-RefusesPlain (Err refusal) = (refusal.number == 30) ≡ false
+-- a refusal of the session's own has another number
+own-plain : (refusal : Refusal) → IsOwn refusal → (refusal.number == 30) ≡ false
+own-plain refusal own =
+    let is_plain : Refusal → Type 0 = λ it. (it.number == 30) ≡ false in
+    ⊎_elim (λ is. subst is_plain (sym is) refl) (λ others. ⊎_elim (λ is. subst is_plain (sym is) refl) (λ is. subst is_plain (sym is) refl) others) own
 
-located-plain : (definitions : List (List ℕ)) (s : Session) (name : List ℕ) → RefusesPlain (located definitions s name)
-located-plain definitions s name = by_place (place_of definitions name)
-  where
-    by_view : (view : Option View) → RefusesPlain (ok_or view no_form)
-    by_view None = refl
-    by_view (Some view) = tt
-
-    by_views : (object : ℕ) (views : Option (List View)) → RefusesPlain (elim views [ None ↦ Err not_attached | Some views ↦ ok_or (slice_get views object) no_form ])
-    by_views object None = refl
-    by_views object (Some views) = by_view (slice_get views object)
-
-    by_place : (place : Option ℕ) → RefusesPlain (elim place [ None ↦ Err no_form | Some object ↦ elim s.views [ None ↦ Err not_attached | Some views ↦ ok_or (slice_get views object) no_form ] ])
-    by_place None = refl
-    by_place (Some object) = by_views object s.views
-
-module _ (definitions : List (List ℕ)) (s : Session) where
-  attach-plain : (views : Option (List View)) → let b : Begun × Session = elim views [ None ↦ (Ask (entry.Attach s.who), s) | Some views ↦ (Said (Refused already_attached), s) ] in SaysPlain b.0
-  attach-plain None = tt
-  attach-plain (Some views) = refl
-
-  acquire-plain : (found : Result View Refusal) → RefusesPlain found → let b : Begun × Session = elim found [ Err refusal ↦ (Said (Refused refusal), s) | Ok view ↦ (Ask (entry.Acquire s.who view.object view.number), s) ] in SaysPlain b.0
-  acquire-plain (Err refusal) plain = plain
-  acquire-plain (Ok view) plain = tt
-
-  assign-plain : (value : ℤ) (found : Result View Refusal) → RefusesPlain found → let b : Begun × Session = elim found [ Err refusal ↦ (Said (Refused refusal), s) | Ok view ↦ (Said Done, with_view s (record view { private = Int value })) ] in SaysPlain b.0
-  assign-plain value (Err refusal) plain = plain
-  assign-plain value (Ok view) plain = refl
-
-  update-plain : (views : Option (List View)) → let b : Begun × Session = elim views [ None ↦ (Said (Refused not_attached), s) | Some views ↦ (Said Done, record s { views = Some (map updated views) }) ] in SaysPlain b.0
-  update-plain None = refl
-  update-plain (Some views) = refl
-
-  commit_asked-plain : (changes : List Change) → SaysPlain (commit_asked s changes).0
-  commit_asked-plain [] = refl
-  commit_asked-plain (change ∷ changes) = tt
-
-  commit-plain : (views : Option (List View)) → let b : Begun × Session = elim views [ None ↦ (Said (Refused not_attached), s) | Some views ↦ commit_asked s (map change_of_view (filter is_staged views)) ] in SaysPlain b.0
-  commit-plain None = refl
-  commit-plain (Some views) = commit_asked-plain (map change_of_view (filter is_staged views))
-
-  show-plain : (found : Result View Refusal) → RefusesPlain found → let b : Begun × Session = elim found [ Err refusal ↦ (Said (Refused refusal), s) | Ok view ↦ (Said (Shown view.private), s) ] in SaysPlain b.0
-  show-plain (Err refusal) plain = plain
-  show-plain (Ok view) plain = refl
-
-  begun-plain : (command : Command) → SaysPlain (begun definitions s command).0
-  begun-plain command.Attach = attach-plain s.views
-  begun-plain (command.Acquire name) = acquire-plain (located definitions s name) (located-plain definitions s name)
-  begun-plain (command.Assign name value) = assign-plain value (located definitions s name) (located-plain definitions s name)
-  begun-plain command.Update = update-plain s.views
-  begun-plain command.Commit = commit-plain s.views
-  begun-plain (command.Show name) = show-plain (located definitions s name) (located-plain definitions s name)
+begun-plain : (definitions : List (List ℕ)) (s : Session) (command : Command) → SaysPlain (begun definitions s command).0
+begun-plain definitions s = begins definitions s (λ (b : Begun × Session). SaysPlain b.0) own-plain (λ asked. tt) (λ moved. refl) (λ cell. refl)
 
 turn_from-plain : (definitions names : List (List ℕ)) (state : Workspace Change) (b : Begun) (s : Session) → SaysPlain b → is_fault (turn_from history_machine definitions names state (b, s)).answer ≡ false
 turn_from-plain definitions names state (Said answer) s plain = plain

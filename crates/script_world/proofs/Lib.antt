@@ -16,6 +16,7 @@ pub mod RecordedTurns
 pub mod FittingWorlds
 pub mod Opening
 pub mod Isolation
+pub mod Begins
 pub mod Refusing
 pub mod Answering
 pub mod Extending

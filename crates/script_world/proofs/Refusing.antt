@@ -1,8 +1,7 @@
 -- A refused line changes nothing of what is committed and owned, and nothing that a session holds.
-use Rattle.std.specs.Prelude.{◌≡◌, ◌++◌, ℕ, ℤ, zero, suc, true, List, [], ◌∷◌, length, map, filter, Option, None, Some, Result, Ok, Err, nat_lt, slice_get, slice_set, slice_index_or, unwrap_or, if◌then◌else◌, refl}
+use Rattle.std.specs.Prelude.{◌≡◌, ◌++◌, ℕ, zero, suc, true, List, [], ◌∷◌, length, Option, None, Some, nat_lt, slice_get, slice_set, slice_index_or, unwrap_or, if◌then◌else◌, refl}
 use Rattle.std.proofs.Common.{◌∙◌, ap, sym}
 use Rattle.std.proofs.lemmas.Bool.{true≢false}
-use Rattle.aw_cell.specs.declared.cell.Cell.TheVariants.{Int}
 use Rattle.mv_core.specs.declared.entry.Change.{Change}
 use Rattle.mv_core.specs.declared.entry.Entry.{Entry}
 use Rattle.mv_core.specs.declared.entry.Entry.TheVariants as entry
@@ -12,22 +11,19 @@ use Rattle.mv_core.specs.SharedStep.{reply_of, writes, workspace_after}
 use Rattle.mv_core.specs.Workspace.{Workspace, standing}
 use Rattle.mv_core.specs.Integers.{integers}
 use Rattle.aw_store.specs.Stores.{record_of}
-use Rattle.ses_step.specs.declared.answer.Answer.TheVariants.{Done, Shown, Refused}
-use Rattle.ses_step.specs.declared.answer.Refusal.{Refusal}
 use Rattle.ses_step.specs.declared.line.Line.{Line}
 use Rattle.ses_step.specs.declared.line.Line.TheVariants as line
 use Rattle.ses_step.specs.declared.line.Command.{Command}
-use Rattle.ses_step.specs.declared.line.Command.TheVariants as command
 use Rattle.ses_step.specs.declared.session.Begun.{Begun}
-use Rattle.ses_step.specs.declared.session.Begun.TheVariants.{Said, Ask}
+use Rattle.ses_step.specs.declared.session.Begun.TheVariants.{Ask}
 use Rattle.ses_step.specs.declared.session.Session.{Session}
-use Rattle.ses_step.specs.declared.session.View.{View}
-use Rattle.ses_step.specs.Answers.{is_refusal, not_attached, already_attached}
+use Rattle.ses_step.specs.Answers.{is_refusal}
 use Rattle.ses_step.specs.Lines.{line_form}
-use Rattle.ses_step.specs.Sessions.{new_session, located, with_view, updated, commit_asked, is_staged, change_of_view}
+use Rattle.ses_step.specs.Sessions.{new_session}
 use Rattle.script_world.specs.Worlds.{World, Turn, replied, turn_from, turn, Answered, silent, refused_as_no_form, no_session, can_define, session_place, with_session, shared_of, closed, commanded, line_answered}
 use Rattle.script_world.specs.Outcomes.{Outcome, done, faulted, OnDisk, unwritten, written, by_history}
 use Rattle.script_world.specs.Refusing.{HasState, ChangesNothing, RefusalChangesNothing}
+use Rattle.script_world.proofs.Begins.{begins}
 use Rattle.script_world.proofs.Elements.{if-holds}
 use Rattle.script_world.proofs.Isolation.{with_session_holds}
 
@@ -89,44 +85,8 @@ module _ (coming : List Outcome) (definitions names : List (List ℕ)) (disk : O
   asked_leaves : (asked : Entry) → LeavesWhereRefused (turn_from (by_history coming) definitions names disk (Ask asked, s))
   asked_leaves asked = replied_leaves asked (reply_of (standing integers disk.state) asked)
 
-  abbrev Begins : Begun × Session → Type 0
-  Begins b = LeavesWhereRefused (turn_from (by_history coming) definitions names disk b)
-
-  attach_leaves : (views : Option (List View)) → Begins (elim views [ None ↦ (Ask (entry.Attach s.who), s) | Some views ↦ (Said (Refused already_attached), s) ])
-  attach_leaves None = asked_leaves (entry.Attach s.who)
-  attach_leaves (Some views) = λ refused. record { session = refl; state = refl }
-
-  acquire_leaves : (found : Result View Refusal) → Begins (elim found [ Err refusal ↦ (Said (Refused refusal), s) | Ok view ↦ (Ask (entry.Acquire s.who view.object view.number), s) ])
-  acquire_leaves (Err refusal) = λ refused. record { session = refl; state = refl }
-  acquire_leaves (Ok view) = asked_leaves (entry.Acquire s.who view.object view.number)
-
-  assign_leaves : (value : ℤ) (found : Result View Refusal) → Begins (elim found [ Err refusal ↦ (Said (Refused refusal), s) | Ok view ↦ (Said Done, with_view s (record view { private = Int value })) ])
-  assign_leaves value (Err refusal) = λ refused. record { session = refl; state = refl }
-  assign_leaves value (Ok view) = λ refused. absurd (true≢false (sym refused))
-
-  update_leaves : (views : Option (List View)) → Begins (elim views [ None ↦ (Said (Refused not_attached), s) | Some views ↦ (Said Done, record s { views = Some (map updated views) }) ])
-  update_leaves None = λ refused. record { session = refl; state = refl }
-  update_leaves (Some views) = λ refused. absurd (true≢false (sym refused))
-
-  changes_leave : (changes : List Change) → Begins (commit_asked s changes)
-  changes_leave [] = λ refused. absurd (true≢false (sym refused))
-  changes_leave (change ∷ changes) = asked_leaves (entry.Commit s.who (change ∷ changes))
-
-  commit_leaves : (views : Option (List View)) → Begins (elim views [ None ↦ (Said (Refused not_attached), s) | Some views ↦ commit_asked s (map change_of_view (filter is_staged views)) ])
-  commit_leaves None = λ refused. record { session = refl; state = refl }
-  commit_leaves (Some views) = changes_leave (map change_of_view (filter is_staged views))
-
-  show_leaves : (found : Result View Refusal) → Begins (elim found [ Err refusal ↦ (Said (Refused refusal), s) | Ok view ↦ (Said (Shown view.private), s) ])
-  show_leaves (Err refusal) = λ refused. record { session = refl; state = refl }
-  show_leaves (Ok view) = λ refused. absurd (true≢false (sym refused))
-
   pub turn_leaves : (own : Command) → LeavesWhereRefused (turn (by_history coming) definitions names disk s own)
-  turn_leaves command.Attach = attach_leaves s.views
-  turn_leaves (command.Acquire name) = acquire_leaves (located definitions s name)
-  turn_leaves (command.Assign name value) = assign_leaves value (located definitions s name)
-  turn_leaves command.Update = update_leaves s.views
-  turn_leaves command.Commit = commit_leaves s.views
-  turn_leaves (command.Show name) = show_leaves (located definitions s name)
+  turn_leaves = begins definitions s (λ (b : Begun × Session). LeavesWhereRefused (turn_from (by_history coming) definitions names disk b)) (λ refusal own refused. record { session = refl; state = refl }) asked_leaves (λ moved refused. absurd (true≢false (sym refused))) (λ cell refused. absurd (true≢false (sym refused)))
 
 -- ---- a line
 
