@@ -7,3 +7,4 @@ pub mod Loading
 pub mod Unique
 pub mod Each
 pub mod Bytes
+pub mod Answering

@@ -1,7 +1,7 @@
 -- What a load answers.
-use Rattle.std.specs.Prelude.{ℕ, List, Option, IfSome, Result, Ok, Err}
+use Rattle.std.specs.Prelude.{◌≡◌, ◌⊎◌, ℕ, List, Option, IfSome, IfOk, IfErr, Result, Ok, Err}
 use Rattle.aw_lists.specs.Faults.{Rose}
-use Rattle.aw_journal.specs.Format.{IsUnformatted, CutShort}
+use Rattle.aw_journal.specs.Format.{IsUnformatted, CutShort, Holds}
 use Rattle.aw_journal.specs.Journal.{JournalState}
 use Rattle.aw_journal.specs.declared.fault.LoadFault.{LoadFault}
 use Rattle.aw_journal.specs.declared.fault.LoadFault.TheVariants.{Unformatted, Damaged, DiskFault, NoMemory}
@@ -18,3 +18,18 @@ Explains NoMemory content before now = Unit {0}
 abbrev pub disk_of : {D : Type 0} → Result (JournalState D × List Payload) (LoadFault × D) → D
 disk_of (Ok loaded) = loaded.0.disk
 disk_of (Err refused) = refused.1
+
+-- the disk failed, or there was no memory
+abbrev pub IsHindered : LoadFault → Type 0
+IsHindered fault = (fault ≡ DiskFault) ⊎ (fault ≡ NoMemory)
+
+-- the load was refused so, unless it was hindered
+abbrev pub IsRefusedAs : {D : Type 0} → LoadFault → Result (JournalState D × List Payload) (LoadFault × D) → Type 0
+IsRefusedAs fault result = IfOk result (λ loaded. ⊥) × IfErr result (λ refused. (refused.0 ≡ fault) ⊎ IsHindered refused.0)
+
+-- Each image has its own answer, unless the load is hindered: bytes that are no journal are refused as that, an image that
+-- is cut short is refused with its offset, and one that holds payloads is loaded.
+pub record IsAnswered {D : Type 0} (result : Result (JournalState D × List Payload) (LoadFault × D)) (image : List ℕ) : Type 0 where
+  pub unformatted : IsUnformatted image → IsRefusedAs Unformatted result
+  pub cut_short : (offset : ℕ) → CutShort image offset → IsRefusedAs (Damaged offset) result
+  pub holding : (payloads : List (List ℕ)) → Holds image payloads → IfErr result (λ refused. IsHindered refused.0)

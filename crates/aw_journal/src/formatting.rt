@@ -28,11 +28,12 @@ fn is_formatted<D: Disk>(disk: &mut D) -> Result<bool, Failed>
 }
 
 /// Writes a journal without payloads, by docs/FORMATS.md, 'The journal': the head and a closed gate
-/// over the first 9 bytes, and a sync. `AlreadyFormatted`: the disk has at least 9 bytes and the head,
-/// and is as before. `DiskFault`: the disk failed.
+/// over the first 9 bytes, and a sync. A disk of at least 9 bytes with the head is as before, whatever
+/// the answer. `AlreadyFormatted`: the disk is such a one. `DiskFault`: the disk failed.
 pub fn format<D: Disk>(disk: &mut D) -> Result<(), FormatFault>
     ensures ok { OnOk result (IfSome (D.content disk.old) (λ content. ¬ (IsFormatted content))) }
     ensures formatted { IsErrOf result FormatFault.AlreadyFormatted → IfSome (D.content disk.old) IsFormatted }
+    ensures kept { IfSome (D.content disk.old) (λ content. IsFormatted content → Undisturbed D.content D.faults D.clock D.crash disk.old disk.new) }
     ensures unchanged { IsErrOf result FormatFault.AlreadyFormatted → Undisturbed D.content D.faults D.clock D.crash disk.old disk.new }
     ensures written { OnOk result (Written 0 (head ++ 0 ∷ []) (D.content disk.old) (D.content disk.new)) }
     ensures durable { OnOk result ((image : List ℕ) → D.crash disk.new (D.clock disk.new) image → D.content disk.new ≡ Some image) }

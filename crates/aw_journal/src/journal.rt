@@ -1,10 +1,10 @@
-ghost use Rattle.std.specs.Prelude.{◌≡◌, ◌≤◌, ◌+◌, ◌^◌, ◌++◌, ◌∷◌, [], ℕ, List as Bytes, length, None, Some, IfSome, IsSome, true, false, IfOk, IfErr, IsOk, OnOk, OnErr, IsErr, IsTrue, ◌↔◌, vec_capacity, ◌<◌};
+ghost use Rattle.std.specs.Prelude.{◌≡◌, ◌≢◌, ◌≤◌, ◌+◌, ◌^◌, ◌++◌, ◌∷◌, [], ℕ, List as Bytes, length, None, Some, IfSome, IsSome, true, false, IfOk, IfErr, IsOk, OnOk, OnErr, IsErr, IsTrue, ◌↔◌, vec_capacity, ◌<◌};
 ghost use Rattle.aw_disk.specs.Calls.{BothTold};
 ghost use Rattle.aw_lists.specs.Faults.{Rose};
 ghost use Rattle.aw_journal.specs.Bytes.{Appended, Repaired};
 ghost use Rattle.aw_journal.specs.Format.{size_bytes, Holds, placed};
 ghost use Rattle.aw_journal.specs.Left.{AllHold, Left};
-ghost use Rattle.aw_journal.specs.Loads.{Explains, disk_of};
+ghost use Rattle.aw_journal.specs.Loads.{Explains, IsAnswered, disk_of};
 ghost use Rattle.aw_journal.specs.Passed.{Passed};
 
 use crate::NoMemory;
@@ -65,14 +65,18 @@ impl<D: Disk> Model for Journal<D> {
 
 impl<D: Disk> Journal<D> {
     /// Syncs, and reads the payloads of a disk with the offsets of their gates. An error hands the disk
-    /// back with its content as before. `Unformatted`: it has fewer than 9 bytes or another head. `Damaged`: the frame at this
-    /// offset is cut short. `DiskFault`: the disk failed. `NoMemory`: there is none for a payload.
+    /// back with its content as before, which is what a crash then leaves, unless the disk failed.
+    /// `Unformatted`: it has fewer than 9 bytes or another head. `Damaged`: the frame at this offset is
+    /// cut short. `DiskFault`: the disk failed. `NoMemory`: there is none for a payload. See
+    /// docs/FORMATS.md, 'The journal' and 'Loading and formatting'.
     pub fn load(alloc: Global, mut disk: D) -> Result<(Journal<D>, List<Payload>), (LoadFault, D)>
         ensures payloads { IfOk result (λ loaded. loaded.1 ≡ placed 8 loaded.0.settled) }
         ensures holds { IfOk result (λ loaded. IfSome (D.content disk) (λ content. Holds content loaded.0.settled)) }
         ensures certain { IfOk result (λ loaded. (loaded.0.doubt ≡ None) × (loaded.0.opening ≡ false)) }
         ensures durable { IfOk result (λ loaded. (image : Bytes ℕ) → D.crash loaded.0.disk (D.clock loaded.0.disk) image → D.content loaded.0.disk ≡ Some image) }
         ensures err { IfErr result (λ refused. Explains refused.0 (D.content disk) (D.faults disk) (D.faults refused.1)) }
+        ensures exactly { IfSome (D.content disk) (IsAnswered result) }
+        ensures refused_durable { IfErr result (λ refused. refused.0 ≢ LoadFault.DiskFault → (image : Bytes ℕ) → D.crash refused.1 (D.clock refused.1) image → D.content refused.1 ≡ Some image) }
         ensures stays { D.content (disk_of result) ≡ D.content disk }
         ensures moments { Passed (D.clock disk) (D.clock (disk_of result)) (D.crash disk) (D.crash (disk_of result)) (D.crash disk (D.clock disk)) }
         ensures later { D.faults disk ≤ D.faults (disk_of result) }

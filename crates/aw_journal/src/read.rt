@@ -1,4 +1,4 @@
-ghost use Rattle.std.specs.Prelude.{◌≡◌, ◌<◌, ◌≤◌, ◌+◌, ◌^◌, ℕ, List as Items, length, take, drop, Some, IfSome, IfOk, IfErr, OnOk};
+ghost use Rattle.std.specs.Prelude.{◌≡◌, ◌≢◌, ◌<◌, ◌≤◌, ◌+◌, ◌^◌, ℕ, List as Items, length, take, drop, Some, IfSome, IfOk, IfErr, OnOk};
 ghost use Rattle.aw_disk.specs.Calls.{length_limit};
 ghost use Rattle.aw_journal.specs.Format.{head};
 ghost use Rattle.aw_journal.specs.Loads.{Explains};
@@ -146,6 +146,7 @@ pub fn read<D: Disk>(alloc: Global, disk: &mut D) -> Result<Found, LoadFault>
     ensures ok { IfOk result (λ found. Progress (D.content disk.old) found Gate.Closed) }
     ensures durable { OnOk result ((image : Items ℕ) → D.crash disk.new (D.clock disk.new) image → D.content disk.new ≡ Some image) }
     ensures err { IfErr result (λ fault. Explains fault (D.content disk.old) (D.faults disk.old) (D.faults disk.new)) }
+    ensures refused_durable { IfErr result (λ fault. fault ≢ LoadFault.DiskFault → (image : Items ℕ) → D.crash disk.new (D.clock disk.new) image → D.content disk.new ≡ Some image) }
     ensures stays { D.content disk.new ≡ D.content disk.old }
     ensures moments { Passed (D.clock disk.old) (D.clock disk.new) (D.crash disk.old) (D.crash disk.new) (D.crash disk.old (D.clock disk.old)) }
     ensures later { D.faults disk.old ≤ D.faults disk.new }

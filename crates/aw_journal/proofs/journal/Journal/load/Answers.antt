@@ -1,6 +1,8 @@
 use Rattle.std.proofs.Common.{◌≡◌, Some, IfSome, sym, subst, ◌∙◌}
+use Rattle.std.proofs.lemmas.Option.{IfSome_then}
 use Rattle.aw_journal.specs.Reading.{HasRead}
 use Rattle.aw_journal.specs.declared.gate.Gate.TheVariants.{Closed}
+use Rattle.aw_journal.proofs.Answering.{loaded, explained}
 use Rattle.aw_journal.proofs.Loading.{read_all}
 use Rattle.aw_journal.proofs.journal.Journal.load.Goals as goal
 
@@ -12,3 +14,11 @@ invariant_of-journal g c =
     let told : g.D.Disk.content c.args.disk ≡ Some image = sym c.in-Ok.ensures.stays ∙ c.in-Ok.ensures.durable image left in
     let read : HasRead found.settled.payloads Closed image = subst (λ content. IfSome content (HasRead found.settled.payloads Closed)) told progress.told in
     record { holds = read_all found.settled.payloads image progress.short read; place = progress.place; within = progress.bound }
+
+pub returns-in-Ok-clause-exactly : goal.returns-in-Ok-clause-exactly
+returns-in-Ok-clause-exactly g c =
+    let found = c.in-Ok.found in
+    IfSome_then (g.D.Disk.content c.args.disk) c.in-Ok.ensures.ok.told (λ image read. loaded _ _ image (read_all found.settled.payloads image c.in-Ok.ensures.ok.short read))
+
+pub returns-in-Err-clause-exactly : goal.returns-in-Err-clause-exactly
+returns-in-Err-clause-exactly g c = explained c.in-Err.fault (c.read.new.disk) (g.D.Disk.content c.args.disk) _ _ c.in-Err.ensures.err
