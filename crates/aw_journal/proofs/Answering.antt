@@ -1,49 +1,31 @@
 -- That a load's answer is the one of its image.
-use Rattle.std.proofs.Common.{inl, inr, ℕ, List, Option, Some, None, IfSome, Ok, Err, ap, refl}
-use Rattle.aw_journal.specs.Format.{Holds}
-use Rattle.aw_journal.specs.Journal.{JournalState}
-use Rattle.aw_journal.specs.Loads.{Explains, IsAnswered}
+use Rattle.std.proofs.Common.{◌≡◌, ℕ, List, Option, Some, None, IfSome, Ok, Err}
+use Rattle.aw_journal.specs.Format.{Holds, CutShort}
+use Rattle.aw_journal.specs.Loads.{Explains, IsAnswered, HoldsSome}
 use Rattle.aw_journal.specs.declared.fault.LoadFault.{LoadFault}
 use Rattle.aw_journal.specs.declared.fault.LoadFault.TheVariants.{Unformatted, Damaged, DiskFault, NoMemory}
-use Rattle.aw_journal.specs.declared.payload.Payload.{Payload}
+use Rattle.aw_journal.proofs.CallerLemmas.{IsOne, IsWhy, loaded, refused}
 use Rattle.aw_journal.proofs.Unique.{reads_one_way}
 
-pub loaded : {D : Type 0} (state : JournalState D) (payloads : List Payload) (image : List ℕ) → Holds image state.settled → IsAnswered {D = D} (Ok (state, payloads)) image
-loaded state payloads image holds =
+is_one : (image : List ℕ) → IsOne CutShort HoldsSome image
+is_one image =
     let one = reads_one_way image in
     record {
-      unformatted = λ unformatted. absurd (one.unformatted_or_holds state.settled unformatted holds);
-      cut_short = λ offset cut. absurd (one.holds_or_cut state.settled offset holds cut);
-      holding = λ others others_hold. tt;
+      unformatted_or_whole = λ unformatted whole. one.unformatted_or_holds whole.0 unformatted whole.1;
+      unformatted_or_damaged = one.unformatted_or_cut;
+      whole_or_damaged = λ offset whole cut. one.holds_or_cut whole.0 offset whole.1 cut;
+      offset = one.offset;
     }
 
-pub refused : {D : Type 0} (fault : LoadFault) (disk : D) (image : List ℕ) (before now : ℕ) → Explains fault (Some image) before now → IsAnswered {D = D} (Err (fault, disk)) image
-refused Unformatted disk image before now unformatted =
-    let one = reads_one_way image in
-    record {
-      unformatted = λ again. (tt, inl refl);
-      cut_short = λ offset cut. absurd (one.unformatted_or_cut offset unformatted cut);
-      holding = λ payloads holds. absurd (one.unformatted_or_holds payloads unformatted holds);
-    }
-refused (Damaged offset) disk image before now cut =
-    let one = reads_one_way image in
-    record {
-      unformatted = λ unformatted. absurd (one.unformatted_or_cut offset unformatted cut);
-      cut_short = λ other other_cut. (tt, inl (ap Damaged (one.offset offset other cut other_cut)));
-      holding = λ payloads holds. absurd (one.holds_or_cut payloads offset holds cut);
-    }
-refused DiskFault disk image before now rose = record {
-  unformatted = λ unformatted. (tt, inr (inl refl));
-  cut_short = λ offset cut. (tt, inr (inl refl));
-  holding = λ payloads holds. inl refl;
-}
-refused NoMemory disk image before now want = record {
-  unformatted = λ unformatted. (tt, inr (inr refl));
-  cut_short = λ offset cut. (tt, inr (inr refl));
-  holding = λ payloads holds. inr refl;
-}
+pub found : {A D : Type 0} (value : A) (image : List ℕ) (payloads : List (List ℕ)) → Holds image payloads → IsAnswered CutShort HoldsSome {A = A} {D = D} (Ok value) image
+found value image payloads holds = loaded CutShort HoldsSome value image (is_one image) (payloads, holds)
 
--- the same, where the disk may tell nothing
-pub explained : {D : Type 0} (fault : LoadFault) (disk : D) (content : Option (List ℕ)) (before now : ℕ) → Explains fault content before now → IfSome content (IsAnswered {D = D} (Err (fault, disk)))
-explained fault disk None before now explains = tt
-explained fault disk (Some image) before now explains = refused fault disk image before now explains
+why : (fault : LoadFault) (image : List ℕ) (before now : ℕ) → Explains fault (Some image) before now → IsWhy CutShort HoldsSome fault image
+why Unformatted image before now explains = explains
+why (Damaged offset) image before now explains = explains
+why DiskFault image before now explains = tt
+why NoMemory image before now explains = tt
+
+pub explained : (A : Type 0) {D : Type 0} (fault : LoadFault) (disk : D) (content : Option (List ℕ)) (before now : ℕ) → Explains fault content before now → IfSome content (IsAnswered CutShort HoldsSome {A = A} {D = D} (Err (fault, disk)))
+explained A fault disk None before now explains = tt
+explained A fault disk (Some image) before now explains = refused CutShort HoldsSome fault disk image (is_one image) (why fault image before now explains)

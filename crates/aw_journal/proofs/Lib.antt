@@ -8,3 +8,4 @@ pub mod Unique
 pub mod Each
 pub mod Bytes
 pub mod Answering
+pub mod CallerLemmas

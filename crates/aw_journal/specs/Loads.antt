@@ -24,12 +24,17 @@ abbrev pub IsHindered : LoadFault → Type 0
 IsHindered fault = (fault ≡ DiskFault) ⊎ (fault ≡ NoMemory)
 
 -- the load was refused so, unless it was hindered
-abbrev pub IsRefusedAs : {D : Type 0} → LoadFault → Result (JournalState D × List Payload) (LoadFault × D) → Type 0
+abbrev pub IsRefusedAs : {A D : Type 0} → LoadFault → Result A (LoadFault × D) → Type 0
 IsRefusedAs fault result = IfOk result (λ loaded. ⊥) × IfErr result (λ refused. (refused.0 ≡ fault) ⊎ IsHindered refused.0)
 
 -- Each image has its own answer, unless the load is hindered: bytes that are no journal are refused as that, an image that
--- is cut short is refused with its offset, and one that holds payloads is loaded.
-pub record IsAnswered {D : Type 0} (result : Result (JournalState D × List Payload) (LoadFault × D)) (image : List ℕ) : Type 0 where
-  pub unformatted : IsUnformatted image → IsRefusedAs Unformatted result
-  pub cut_short : (offset : ℕ) → CutShort image offset → IsRefusedAs (Damaged offset) result
-  pub holding : (payloads : List (List ℕ)) → Holds image payloads → IfErr result (λ refused. IsHindered refused.0)
+-- is damaged is refused with the offset, and one that can be loaded is loaded.
+module _ (IsDamaged : List ℕ → ℕ → Type 0) (IsWhole : List ℕ → Type 0) where
+  pub record IsAnswered {A D : Type 0} (result : Result A (LoadFault × D)) (image : List ℕ) : Type 0 where
+    pub unformatted : IsUnformatted image → IsRefusedAs Unformatted result
+    pub damaged : (offset : ℕ) → IsDamaged image offset → IsRefusedAs (Damaged offset) result
+    pub whole : IsWhole image → IfErr result (λ refused. IsHindered refused.0)
+
+-- the image holds some payloads
+abbrev pub HoldsSome : List ℕ → Type 0
+HoldsSome image = (payloads : List (List ℕ)) × Holds image payloads

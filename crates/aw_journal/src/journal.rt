@@ -2,9 +2,9 @@ ghost use Rattle.std.specs.Prelude.{◌≡◌, ◌≢◌, ◌≤◌, ◌+◌, �
 ghost use Rattle.aw_disk.specs.Calls.{BothTold};
 ghost use Rattle.aw_lists.specs.Faults.{Rose};
 ghost use Rattle.aw_journal.specs.Bytes.{Appended, Repaired};
-ghost use Rattle.aw_journal.specs.Format.{size_bytes, Holds, placed};
+ghost use Rattle.aw_journal.specs.Format.{size_bytes, Holds, CutShort, placed};
 ghost use Rattle.aw_journal.specs.Left.{AllHold, Left};
-ghost use Rattle.aw_journal.specs.Loads.{Explains, IsAnswered, disk_of};
+ghost use Rattle.aw_journal.specs.Loads.{Explains, IsAnswered, HoldsSome, disk_of};
 ghost use Rattle.aw_journal.specs.Passed.{Passed};
 
 use crate::NoMemory;
@@ -75,7 +75,7 @@ impl<D: Disk> Journal<D> {
         ensures certain { IfOk result (λ loaded. (loaded.0.doubt ≡ None) × (loaded.0.opening ≡ false)) }
         ensures durable { IfOk result (λ loaded. (image : Bytes ℕ) → D.crash loaded.0.disk (D.clock loaded.0.disk) image → D.content loaded.0.disk ≡ Some image) }
         ensures err { IfErr result (λ refused. Explains refused.0 (D.content disk) (D.faults disk) (D.faults refused.1)) }
-        ensures exactly { IfSome (D.content disk) (IsAnswered result) }
+        ensures exactly { IfSome (D.content disk) (IsAnswered CutShort HoldsSome result) }
         ensures refused_durable { IfErr result (λ refused. refused.0 ≢ LoadFault.DiskFault → (image : Bytes ℕ) → D.crash refused.1 (D.clock refused.1) image → D.content refused.1 ≡ Some image) }
         ensures stays { D.content (disk_of result) ≡ D.content disk }
         ensures moments { Passed (D.clock disk) (D.clock (disk_of result)) (D.crash disk) (D.crash (disk_of result)) (D.crash disk (D.clock disk)) }

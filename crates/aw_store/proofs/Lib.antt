@@ -7,3 +7,4 @@ pub mod Payloads
 pub mod Reading
 pub mod Spellings
 pub mod Steps
+pub mod Answering

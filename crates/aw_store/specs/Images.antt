@@ -18,6 +18,10 @@ pub record HoldsRecords (image : List ℕ) (records : List Decoded) : Type 0 whe
   pub spellings : AreRecords records
   pub replayable : IsTrue (can_replay records)
 
+-- the image holds some records
+abbrev pub HoldsSomeRecords : List ℕ → Type 0
+HoldsSomeRecords image = (records : List Decoded) × HoldsRecords image records
+
 -- what a crash may leave: the settled records, and perhaps the one in doubt
 abbrev pub LeftRecords : List Decoded → Option Decoded → List ℕ → Type 0
 LeftRecords records None image = HoldsRecords image records

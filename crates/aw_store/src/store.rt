@@ -1,15 +1,16 @@
-ghost use Rattle.std.specs.Prelude.{◌≡◌, ◌⊎◌, ◌≤◌, ◌<◌, ◌++◌, ◌∷◌, [], ℕ, List, length, map, slice_get, None, Some, IsSome, IfSome, IfOk, OnOk, IfErr, OnErr, IsTrue, Ok, Err, unwrap_or};
+ghost use Rattle.std.specs.Prelude.{◌≡◌, ◌≢◌, ◌⊎◌, ◌≤◌, ◌<◌, ◌++◌, ◌∷◌, [], ℕ, List, length, map, slice_get, None, Some, IsSome, IfSome, IfOk, OnOk, IfErr, OnErr, IsTrue, Ok, Err, unwrap_or};
 ghost use Rattle.std.specs.Option.{option_copied};
 ghost use Rattle.aw_lists.specs.Faults.{Rose};
 ghost use Rattle.aw_codec.specs.Records.{AreDefinable, AreCommittable};
 ghost use Rattle.aw_codec.specs.declared.record.Decoded.TheVariants.{Definitions};
+ghost use Rattle.aw_journal.specs.Loads.{IsAnswered};
 ghost use Rattle.aw_journal.specs.Passed.{Passed};
 ghost use Rattle.mv_core.specs.declared.entry.Change.{Change};
 ghost use Rattle.mv_core.specs.declared.entry.Reply.TheVariants.{Fault};
 ghost use Rattle.mv_core.specs.Workspace.{Workspace, standing, opened};
 ghost use Rattle.mv_core.specs.Integers.{integers};
 ghost use Rattle.aw_store.specs.Replay.{can_replay, names_of, workspace_of, pair_from, commit_record};
-ghost use Rattle.aw_store.specs.Images.{AreRecords, HoldsRecords, LeftRecords, IsRefused};
+ghost use Rattle.aw_store.specs.Images.{AreRecords, HoldsRecords, HoldsSomeRecords, LeftRecords, IsDamaged, IsRefused};
 ghost use Rattle.aw_store.specs.Stores.{record_of, Doubts, Writes, Acts, IsToWrite, IsLegalOnDisk};
 
 use crate::NoMemory;
@@ -64,7 +65,8 @@ impl<D: Disk> Model for Store<D> {
 
 impl<D: Disk> Store<D> {
     /// Reads the records of a disk, and replays them. Nobody owns an object then. In an error the disk
-    /// is handed back with its content as before. `Unformatted`: it has fewer than 9 bytes or another
+    /// is handed back with its content as before, which is what a crash then leaves, unless the disk
+    /// failed. `Unformatted`: it has fewer than 9 bytes or another
     /// head. `Damaged`: the frame at this offset is cut short, or the first of the others that isn't a
     /// record, or with which the records before it can't be replayed. `DiskFault`: the disk failed.
     /// `NoMemory`: there is none for what the records leave.
@@ -79,6 +81,25 @@ impl<D: Disk> Store<D> {
         ensures later { IfOk result (λ store. D.faults disk ≤ D.faults store.disk) }
         ensures refused_later { IfErr result (λ refused. D.faults disk ≤ D.faults refused.1) }
         ensures cause { IfErr result (λ refused. refused.0 ≡ LoadFault.DiskFault → Rose (D.faults disk) (D.faults refused.1)) }
+        ensures refused_durable { IfErr result (λ refused. refused.0 ≢ LoadFault.DiskFault → (image : List ℕ) → D.crash refused.1 (D.clock refused.1) image → D.content refused.1 ≡ Some image) }
+        ensures exactly { IfSome (D.content disk) (IsAnswered IsDamaged HoldsSomeRecords result) }
+    {
+        Store::replayed(alloc, disk)
+    }
+
+    // Reads and replays the records of a disk.
+    fn replayed(alloc: Global, disk: D) -> Result<Store<D>, (LoadFault, D)>
+        ensures holds { IfOk result (λ store. IfSome (D.content disk) (λ image. HoldsRecords image store.records)) }
+        ensures opened { IfOk result (λ store. (store.doubt ≡ None) × (store.objects ≡ standing integers (workspace_of store.records []))) }
+        ensures content { IfOk result (λ store. D.content store.disk ≡ D.content disk) }
+        ensures refused_content { IfErr result (λ refused. D.content refused.1 ≡ D.content disk) }
+        ensures moments { IfOk result (λ store. Passed (D.clock disk) (D.clock store.disk) (D.crash disk) (D.crash store.disk) (D.crash disk (D.clock disk))) }
+        ensures refused_moments { IfErr result (λ refused. Passed (D.clock disk) (D.clock refused.1) (D.crash disk) (D.crash refused.1) (D.crash disk (D.clock disk))) }
+        ensures refused { IfErr result (λ refused. IfSome (D.content disk) (IsRefused refused.0)) }
+        ensures later { IfOk result (λ store. D.faults disk ≤ D.faults store.disk) }
+        ensures refused_later { IfErr result (λ refused. D.faults disk ≤ D.faults refused.1) }
+        ensures cause { IfErr result (λ refused. refused.0 ≡ LoadFault.DiskFault → Rose (D.faults disk) (D.faults refused.1)) }
+        ensures refused_durable { IfErr result (λ refused. refused.0 ≢ LoadFault.DiskFault → (image : List ℕ) → D.crash refused.1 (D.clock refused.1) image → D.content refused.1 ≡ Some image) }
     {
         let (journal, payloads) = match Journal::load(alloc, disk) {
             Ok(loaded) => loaded,

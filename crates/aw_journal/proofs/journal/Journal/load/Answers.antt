@@ -2,7 +2,7 @@ use Rattle.std.proofs.Common.{◌≡◌, Some, IfSome, sym, subst, ◌∙◌}
 use Rattle.std.proofs.lemmas.Option.{IfSome_then}
 use Rattle.aw_journal.specs.Reading.{HasRead}
 use Rattle.aw_journal.specs.declared.gate.Gate.TheVariants.{Closed}
-use Rattle.aw_journal.proofs.Answering.{loaded, explained}
+use Rattle.aw_journal.proofs.Answering.{found, explained}
 use Rattle.aw_journal.proofs.Loading.{read_all}
 use Rattle.aw_journal.proofs.journal.Journal.load.Goals as goal
 
@@ -17,8 +17,8 @@ invariant_of-journal g c =
 
 pub returns-in-Ok-clause-exactly : goal.returns-in-Ok-clause-exactly
 returns-in-Ok-clause-exactly g c =
-    let found = c.in-Ok.found in
-    IfSome_then (g.D.Disk.content c.args.disk) c.in-Ok.ensures.ok.told (λ image read. loaded _ _ image (read_all found.settled.payloads image c.in-Ok.ensures.ok.short read))
+    let payloads = c.in-Ok.found.settled.payloads in
+    IfSome_then (g.D.Disk.content c.args.disk) c.in-Ok.ensures.ok.told (λ image read. found _ image payloads (read_all payloads image c.in-Ok.ensures.ok.short read))
 
 pub returns-in-Err-clause-exactly : goal.returns-in-Err-clause-exactly
-returns-in-Err-clause-exactly g c = explained c.in-Err.fault (c.read.new.disk) (g.D.Disk.content c.args.disk) _ _ c.in-Err.ensures.err
+returns-in-Err-clause-exactly g c = explained _ c.in-Err.fault (c.read.new.disk) (g.D.Disk.content c.args.disk) _ _ c.in-Err.ensures.err
