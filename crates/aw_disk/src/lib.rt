@@ -6,6 +6,7 @@ mod disk;
 mod file_disk;
 mod laws;
 mod mem_disk;
+mod opening;
 mod placing;
 mod replay;
 mod step;

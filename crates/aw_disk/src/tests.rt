@@ -147,6 +147,9 @@ fn file_disk_keeps_a_file(rt: HostRuntime) -> Result<(), Fail> {
     assert_eq!(rt; disk.write_at(0, b"abc"), Ok(()));
     assert_eq!(rt; disk.write_at(2, b"xy"), Ok(()));
     assert_eq!(rt; disk.sync(), Ok(()));
+    let mut other = FileDisk::open(&rt, path);
+    assert_eq!(rt; other.len(), Err(Failed));
+    drop(disk);
     let again = FileDisk::open(&rt, path);
     assert_eq!(rt; reads(again, b"abxy"), Ok(true));
     std::fs::remove_file(&rt, path)?;

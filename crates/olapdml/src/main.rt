@@ -7,6 +7,8 @@ use aw_cell::Text;
 use aw_disk::FileDisk;
 use aw_io::{StdSink, StdSource};
 use script_play::run;
+use std::fs::{File, OpenOptions};
+use std::os::fd::AsRawFd;
 use std::process::ExitCode;
 use std::rt::Env;
 use std::{env, io};
@@ -46,19 +48,59 @@ fn read_words<R: Env + AllocGlobal>(rt: &R) -> io::Result<CommandLine> {
     Ok(CommandLine { path, words })
 }
 
+const STANDARD_INPUT: i32 = 0;
+
+const STANDARD_ERROR: i32 = 2;
+
+/// Takes the lowest free descriptor where it is one of the standard streams: for standard input by a
+/// file that can't be read, and else by one that can't be written.
+fn take_lowest(rt: &HostRuntime) -> io::Result<Option<File>> {
+    let unread = OpenOptions::new().write(true).open(rt, "/dev/null")?;
+    if unread.as_raw_fd() == STANDARD_INPUT {
+        return Ok(Some(unread));
+    }
+    if unread.as_raw_fd() > STANDARD_ERROR {
+        return Ok(None);
+    }
+    drop(unread);
+    Ok(Some(File::open(rt, "/dev/null")?))
+}
+
+/// Says on standard error which device failed, and what the system said.
+fn complain(rt: &impl Eprint, device: &str, error: Option<io::Error>) {
+    if let Some(error) = error {
+        let _ = eprintln!(rt; "{device}: {error}");
+    }
+}
+
+fn complain_of_memory(rt: &impl Eprint) {
+    let _ = eprintln!(rt; "memory: none is left");
+}
+
 /// Does what the words say, on the workspace in this file.
 fn work(rt: &HostRuntime, path: &str, words: &[Text]) -> u8 {
     let mut disk = FileDisk::open(rt, path);
     let mut script = StdSource::new(rt.reader());
     let mut out = StdSink::new(io::writer(rt));
-    run(rt.alloc(), words, &mut script, &mut out, &mut disk)
+    let status = run(rt.alloc(), words, &mut script, &mut out, &mut disk);
+    match status {
+        3 => complain(rt, "standard input", script.error()),
+        4 => complain(rt, "standard output", out.error()),
+        5 => complain(rt, path, disk.error()),
+        NO_MEMORY => complain_of_memory(rt),
+        _ => {}
+    }
+    status
 }
 
 /// Prints a text that was asked for; a failure is the sink's.
-fn tell(rt: &impl Print, text: &str) -> u8 {
+fn tell(rt: &(impl Print + Eprint), text: &str) -> u8 {
     match rt.println(text) {
         Ok(()) => 0,
-        Err(_) => 4,
+        Err(error) => {
+            complain(rt, "standard output", Some(error));
+            4
+        }
     }
 }
 
@@ -66,9 +108,12 @@ fn tell(rt: &impl Print, text: &str) -> u8 {
 const NO_MEMORY: u8 = 6;
 
 fn main(rt: HostRuntime) -> ExitCode {
+    // Before any file is opened, and to the end: else a file would be read or written as a stream.
+    let _streams = [take_lowest(&rt), take_lowest(&rt), take_lowest(&rt)];
     let given = match read_words(&rt) {
         Ok(given) => given,
         Err(error) if error.kind() == io::ErrorKind::OutOfMemory => {
+            complain_of_memory(&rt);
             return ExitCode::from(NO_MEMORY);
         }
         // Words that aren't UTF-8 are no command.
