@@ -4,7 +4,9 @@
 if [ -z "${inside:-}" ]; then
     mkdir small
     unshare -m true 2>/dev/null || skip "no file system can be mounted here"
-    inside=yes exec unshare -m sh -u "$0"
+    inside=yes
+    export inside
+    exec unshare -m sh -u "$0"
 fi
 mount -t tmpfs -o size=16k none small 2>/dev/null || skip "no file system can be mounted here"
 cd small || fail "no folder"
