@@ -64,21 +64,6 @@ fn two_payloads_stand_at_their_gates(rt: HostRuntime) -> Result<(), Fail> {
 }
 
 #[test]
-fn each_front_of_a_disk_is_told_apart(rt: HostRuntime) -> Result<(), Fail> {
-    let alloc = rt.alloc();
-    for length in 0..45usize {
-        let expected = match length {
-            0..=8 => LoadFault::Unformatted,
-            9..=22 => LoadFault::Damaged(8),
-            _ => LoadFault::Damaged(22),
-        };
-        let disk = disk_of(alloc, &TWO[..length], &[])?;
-        assert_eq!(rt; count_of(alloc, disk), Err(expected), "at {length}");
-    }
-    Ok(())
-}
-
-#[test]
 fn faults_of_the_disk_are_told(rt: HostRuntime) -> Result<(), Fail> {
     let alloc = rt.alloc();
     for call in 0..5u64 {

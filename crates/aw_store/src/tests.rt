@@ -28,14 +28,6 @@ fn load_of<D: Disk + Drop>(alloc: Global, disk: D) -> Option<Store<D>> {
     }
 }
 
-// Why these bytes give no store.
-fn fault_of(alloc: Global, bytes: &[u8]) -> Result<Option<LoadFault>, NoMemory> {
-    match Store::load(alloc, disk_of(alloc, bytes, &[])?) {
-        Ok(_) => Ok(None),
-        Err((fault, _)) => Ok(Some(fault)),
-    }
-}
-
 // An object's number, owner and body.
 fn seen<D: Disk>(store: &Store<D>, object: u16) -> Option<(u64, Option<u32>, Cell)> {
     match store.names() {
@@ -280,52 +272,6 @@ fn each_moment_has_the_records_before_or_after(rt: HostRuntime) -> Result<(), Fa
             "at {moment}"
         );
     }
-    Ok(())
-}
-
-#[test]
-fn damage_is_found_at_its_gate(rt: HostRuntime) -> Result<(), Fail> {
-    let cases: [(&[u8], u64); 7] = [
-        // A commit, and no definitions.
-        (
-            b"OLAPMW1\n\x01\0\0\0\x11C\x01\0\x01\0\0M\0\0\0\0\x01\x02\0\0\0\x07\0",
-            8,
-        ),
-        // Definitions twice.
-        (
-            b"OLAPMW1\n\x01\0\0\0\x09D\x01\0\x01\x01v\x03\x02\0\x01\0\0\0\x09D\x01\0\x01\x01v\x03\x02\0\0",
-            22,
-        ),
-        // A change of object 1, of one that is defined.
-        (
-            b"OLAPMW1\n\x01\0\0\0\x09D\x01\0\x01\x01v\x03\x02\0\x01\0\0\0\x0dC\x01\0\x01\0\x01M\0\0\0\0\x01\0\0",
-            22,
-        ),
-        // A payload of no bytes.
-        (
-            b"OLAPMW1\n\x01\0\0\0\x09D\x01\0\x01\x01v\x03\x02\0\x01\0\0\0\0\0",
-            22,
-        ),
-        // Names that are the same but for case.
-        (
-            b"OLAPMW1\n\x01\0\0\0\x0eD\x01\0\x02\x01v\x03\x02\0\x01V\x03\x02\0\0",
-            8,
-        ),
-        // No record, before a whole frame and before one that is cut short.
-        (
-            b"OLAPMW1\n\x01\0\0\0\x01E\x01\0\0\0\x09D\x01\0\x01\x01v\x03\x02\0\0",
-            8,
-        ),
-        (b"OLAPMW1\n\x01\0\0\0\x01E\x01", 14),
-    ];
-    for (bytes, offset) in cases {
-        let fault = fault_of(rt.alloc(), bytes)?;
-        assert!(rt; fault == Some(LoadFault::Damaged(offset)));
-    }
-    let cut = fault_of(rt.alloc(), &TWO[..44])?;
-    assert!(rt; cut == Some(LoadFault::Damaged(22)));
-    let short = fault_of(rt.alloc(), &TWO[..8])?;
-    assert!(rt; short == Some(LoadFault::Unformatted));
     Ok(())
 }
 

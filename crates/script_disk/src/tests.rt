@@ -34,56 +34,6 @@ fn sink_of(alloc: Global, failing: &[u64]) -> Result<MemSink, NoMemory> {
     Ok(MemSink::new(List::new(alloc), failing))
 }
 
-// Whether a dump of these bytes has this status and writes this text, and keeps the bytes.
-fn dumps(alloc: Global, bytes: &[u8], status: u8, text: &[u8]) -> Result<bool, NoMemory> {
-    let mut disk = disk_of(alloc, bytes, &[])?;
-    let mut sink = sink_of(alloc, &[])?;
-    let answer = dump(alloc, &mut disk, &mut sink);
-    Ok(answer == status && sink.bytes() == text && disk.bytes() == bytes)
-}
-
-#[test]
-fn dumps_show_each_object(rt: HostRuntime) -> Result<(), Fail> {
-    let alloc = rt.alloc();
-    assert!(rt; dumps(alloc, &TWO, 0, b"v 2 1\n  = 7\n")?);
-    assert!(rt; dumps(alloc, &SECOND, 0, b"a 1 0\nb 2 1\n  = -1\n")?);
-    assert!(rt; dumps(alloc, &EMPTY, 0, b"")?);
-    Ok(())
-}
-
-#[test]
-fn a_bad_disk_is_told(rt: HostRuntime) -> Result<(), Fail> {
-    let alloc = rt.alloc();
-    assert!(rt; dumps(alloc, &TWO[..30], 8, b"DAMAGED 22\n")?);
-    assert!(rt; dumps(alloc, &TWO[..22], 8, b"DAMAGED 8\n")?);
-    assert!(rt; dumps(alloc, &TWO[..5], 7, b"NOT A WORKSPACE\n")?);
-    Ok(())
-}
-
-// Whether making a workspace of these bytes has this status, writes this text and leaves this disk.
-fn makes(
-    alloc: Global,
-    bytes: &[u8],
-    status: u8,
-    text: &[u8],
-    left: &[u8],
-) -> Result<bool, NoMemory> {
-    let mut disk = disk_of(alloc, bytes, &[])?;
-    let mut sink = sink_of(alloc, &[])?;
-    let answer = make(&mut disk, &mut sink);
-    Ok(answer == status && sink.bytes() == text && disk.bytes() == left)
-}
-
-#[test]
-fn a_workspace_is_made_once(rt: HostRuntime) -> Result<(), Fail> {
-    let alloc = rt.alloc();
-    assert!(rt; makes(alloc, b"", 0, b"ok\n", &EMPTY)?);
-    assert!(rt; makes(alloc, b"OLAPMW1\n", 0, b"ok\n", &EMPTY)?);
-    assert!(rt; makes(alloc, b"another file", 0, b"ok\n", b"OLAPMW1\n\0ile")?);
-    assert!(rt; makes(alloc, &TWO, 9, b"ALREADY A WORKSPACE\n", &TWO)?);
-    Ok(())
-}
-
 // The status of a dump and of `new` where the disk fails at this call, if nothing is written.
 fn with_failing_disk(alloc: Global, call: u64) -> Result<Option<(u8, u8)>, NoMemory> {
     let mut disk = disk_of(alloc, &TWO, &[call])?;
