@@ -11,8 +11,7 @@ mod placing;
 mod replay;
 mod step;
 mod sure_disk;
-#[cfg(test)]
-mod tests;
+mod threads;
 
 pub use disk::{Disk, Failed};
 pub use file_disk::FileDisk;

@@ -1,7 +1,7 @@
-use super::*;
 use aw_cell::{Cell, Text};
 use aw_disk::{Disk, MemDisk, Pick, SureDisk};
 use aw_lists::List;
+use aw_store::{NoMemory, Store};
 use mv_core::{Change, Entry, Fresh, Reply};
 use std::alloc::Global;
 use std::test::Fail;
@@ -284,19 +284,5 @@ fn definitions_are_taken_once(rt: HostRuntime) -> Result<(), Fail> {
     assert_eq!(rt; acquire_v(&mut store), Reply::Stranger { object: 0 });
     assert!(rt; define_v(alloc, &mut store)?);
     assert!(rt; !define_v(alloc, &mut store)?);
-    Ok(())
-}
-
-fn needs_send<T: Send + Drop>(_: T) {}
-
-fn crosses_threads<D: Disk + Send + Drop>(store: Store<D>) {
-    needs_send(store);
-}
-
-#[test]
-fn goes_to_another_thread(rt: HostRuntime) -> Result<(), Fail> {
-    let alloc = rt.alloc();
-    let loaded = load_of(alloc, disk_of(alloc, &EMPTY, &[])?);
-    crosses_threads(loaded.expect(&rt, "the disk has a store"));
     Ok(())
 }

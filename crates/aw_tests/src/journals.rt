@@ -1,7 +1,7 @@
 ghost use Rattle.std.specs.Prelude.{◌≡◌, ◌≤◌, None, IfOk, IfSome};
 
-use super::*;
 use aw_disk::{Disk, FileDisk, MemDisk, Pick};
+use aw_journal::{FormatFault, Journal, LoadFault, NoMemory, Payload, format, laws};
 use aw_lists::List;
 use std::alloc::Global;
 use std::test::Fail;
@@ -225,11 +225,4 @@ fn a_file_keeps_a_payload(rt: HostRuntime) -> Result<(), Fail> {
     assert!(rt; holds_one(rt.alloc(), FileDisk::open(&rt, path), b"abc"));
     std::fs::remove_file(&rt, path)?;
     Ok(())
-}
-
-fn needs_send_and_sync<T: Send + Sync + Drop>(_: T) {}
-
-// Proved for every disk, and never run.
-fn crosses_threads<D: Disk + Send + Sync + Drop>(journal: Journal<D>) {
-    needs_send_and_sync(journal);
 }

@@ -1,4 +1,6 @@
-use super::*;
+use aw_disk::{
+    Disk, Failed, FileDisk, MemDisk, NoMemory, Pick, SureDisk, crashes_leave_what_is_covered,
+};
 use aw_lists::List;
 use std::alloc::Global;
 use std::test::Fail;
@@ -71,15 +73,6 @@ fn written(alloc: Global) -> Result<MemDisk, NoMemory> {
         return Err(NoMemory);
     }
     Ok(disk)
-}
-
-fn needs_send_and_sync<T: Send + Sync + Drop>(_: T) {}
-
-// Each disk may be sent to another thread and shared with it.
-fn disks_cross_threads(listed: MemDisk, sure: SureDisk, file: FileDisk) {
-    needs_send_and_sync(listed);
-    needs_send_and_sync(sure);
-    needs_send_and_sync(file);
 }
 
 #[test]

@@ -1,4 +1,7 @@
-use super::*;
+use aw_io::{
+    Gave, MemSink, MemSource, NoMemory, Sink, SinkFault, Source, StdSink, StdSource, SureSink,
+    SureSource, Took, put_all,
+};
 use aw_lists::List;
 use std::alloc::Global;
 use std::io;
@@ -90,24 +93,6 @@ impl<K: Sink> Sink for ByteByByte<K> {
     fn put(&mut self, bytes: &[u8]) -> Gave {
         self.sink.put(&bytes[..1])
     }
-}
-
-fn needs_send_and_sync<T: Send + Sync + Drop>(_: T) {}
-
-// The forms over memory may be sent to other threads and shared with them.
-fn forms_cross_threads(
-    listed_source: MemSource,
-    sure_source: SureSource,
-    listed_sink: MemSink,
-    sure_sink: SureSink,
-) {
-    needs_send_and_sync(listed_source);
-    needs_send_and_sync(sure_source);
-    needs_send_and_sync(listed_sink);
-    needs_send_and_sync(sure_sink);
-    needs_send_and_sync(Took::End);
-    needs_send_and_sync(Gave::Failed);
-    needs_send_and_sync(SinkFault);
 }
 
 #[test]

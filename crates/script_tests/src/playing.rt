@@ -1,8 +1,8 @@
-use super::run;
 use aw_cell::Text;
 use aw_disk::{Disk, MemDisk, Pick, SureDisk};
 use aw_io::{MemSink, MemSource, NoMemory, Sink, Source, SureSink, SureSource};
 use aw_lists::List;
+use script_play::run;
 use std::alloc::Global;
 use std::test::Fail;
 

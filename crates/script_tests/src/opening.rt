@@ -1,8 +1,8 @@
-use super::*;
 use aw_disk::{Disk, MemDisk, SureDisk};
 use aw_io::{MemSink, Sink, SureSink};
 use aw_lists::List;
 use aw_store::{NoMemory, Store};
+use script_disk::{Unopened, dump, make, open};
 use std::alloc::Global;
 use std::test::Fail;
 

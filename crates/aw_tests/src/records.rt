@@ -1,5 +1,5 @@
-use super::*;
 use aw_cell::{Cell, Text};
+use aw_codec::{BadRecord, Decoded, decode, encode_catalogue, encode_commit};
 use aw_lists::List;
 use std::test::Fail;
 
@@ -58,15 +58,6 @@ fn spells_and_reads_several_changes(rt: HostRuntime) -> Result<(), Fail> {
     let found = decode(alloc, expected).ok().ok_or("a record")?;
     assert!(rt; found == Decoded::Commit(changes));
     Ok(())
-}
-
-fn needs_send_and_sync<T: Send + Sync + Drop>(_: T) {}
-
-#[test]
-fn goes_to_another_thread(rt: HostRuntime) {
-    needs_send_and_sync(Decoded::Definitions(List::new(rt.alloc())));
-    needs_send_and_sync(BadRecord::NoMemory);
-    needs_send_and_sync(CodeLong::NoMemory);
 }
 
 #[test]
