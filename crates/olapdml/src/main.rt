@@ -22,6 +22,20 @@ writes the transcript, or writes what it holds.";
 
 const VERSION: &str = "olapdml 0.2.0";
 
+// The descriptors of the first and the last of the standard streams.
+const STANDARD_INPUT: i32 = 0;
+
+const STANDARD_ERROR: i32 = 2;
+
+// The statuses at which a device failed, or memory ran out (docs/LANGUAGE.md, "Statuses").
+const SCRIPT_FAILED: u8 = 3;
+
+const OUTPUT_FAILED: u8 = 4;
+
+const WORKSPACE_FAILED: u8 = 5;
+
+const NO_MEMORY: u8 = 6;
+
 /// The words of the command line: the path of the workspace, and the words behind it.
 #[derive(Drop)]
 struct CommandLine {
@@ -47,10 +61,6 @@ fn read_words<R: Env + AllocGlobal>(rt: &R) -> io::Result<CommandLine> {
     }
     Ok(CommandLine { path, words })
 }
-
-const STANDARD_INPUT: i32 = 0;
-
-const STANDARD_ERROR: i32 = 2;
 
 /// Takes the lowest free descriptor where it is one of the standard streams: for standard input by a
 /// file that can't be read, and else by one that can't be written.
@@ -84,9 +94,9 @@ fn work(rt: &HostRuntime, path: &str, words: &[Text]) -> u8 {
     let mut out = StdSink::new(io::writer(rt));
     let status = run(rt.alloc(), words, &mut script, &mut out, &mut disk);
     match status {
-        3 => complain(rt, "standard input", script.error()),
-        4 => complain(rt, "standard output", out.error()),
-        5 => complain(rt, path, disk.error()),
+        SCRIPT_FAILED => complain(rt, "standard input", script.error()),
+        OUTPUT_FAILED => complain(rt, "standard output", out.error()),
+        WORKSPACE_FAILED => complain(rt, path, disk.error()),
         NO_MEMORY => complain_of_memory(rt),
         _ => {}
     }
@@ -99,13 +109,10 @@ fn tell(rt: &(impl Print + Eprint), text: &str) -> u8 {
         Ok(()) => 0,
         Err(error) => {
             complain(rt, "standard output", Some(error));
-            4
+            OUTPUT_FAILED
         }
     }
 }
-
-/// The status of a run that found no memory for its words.
-const NO_MEMORY: u8 = 6;
 
 fn main(rt: HostRuntime) -> ExitCode {
     // Before any file is opened, and to the end: else a file would be read or written as a stream.
