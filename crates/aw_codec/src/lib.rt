@@ -8,11 +8,9 @@ mod fields;
 mod laws;
 mod marks;
 mod record;
+mod threads;
 
 pub use decoding::decode;
 pub use encoding::{encode_catalogue, encode_commit};
 pub use laws::{spelling_or_fault, spellings_differ, wholes_are_records};
 pub use record::{BadRecord, CodeLong, Decoded};
-
-#[cfg(test)]
-mod tests;

@@ -1,9 +1,13 @@
 -- A file as a disk, which tells nothing.
-use Rattle.std.specs.Prelude.{◌≡◌, ℕ, Bool, List, None, Some, is_ok}
+use Rattle.std.specs.Prelude.{◌≡◌, ℕ, Bool, List, None, Some, is_ok, is_some}
 use Rattle.aw_disk.specs.declared.file_disk.FileDisk.{FileDisk}
 
 abbrev pub faults_of : FileDisk → ℕ
 faults_of disk = disk.faults
+
+-- whether it tells what the system said at the last failure
+abbrev pub tells_why : FileDisk → Bool
+tells_why disk = is_some disk.error
 
 -- whether the file could be opened
 abbrev pub is_open : FileDisk → Bool

@@ -1,10 +1,11 @@
-ghost use Rattle.std.specs.Prelude.{◌≡◌, ◌≤◌, ◌↔◌, length, None, IfOk, OnOk, OnErr, IsOk, IsErr, IsTrue};
+ghost use Rattle.std.specs.Prelude.{◌≡◌, ◌≤◌, ◌↔◌, length, None, IfOk, OnOk, OnErr, IsOk, IsErr, IsTrue, is_some};
 ghost use Rattle.aw_lists.specs.Faults.{next_count, Rose};
 ghost use Rattle.aw_disk.specs.Calls.{length_limit};
-ghost use Rattle.aw_disk.specs.FileDisk.{faults_of, is_open, tells_nothing};
+ghost use Rattle.aw_disk.specs.FileDisk.{faults_of, tells_why, is_open, tells_nothing};
 
 use crate::disk::{Disk, Failed};
-use std::fs::{File, OpenOptions};
+use crate::opening::open_alone;
+use std::fs::File;
 use std::io;
 use std::os::unix::fs::FileExt;
 
@@ -15,22 +16,32 @@ use std::os::unix::fs::FileExt;
 pub struct FileDisk {
     file: io::Result<File>,
     faults: u64,
+    error: Option<io::Error>,
 }
 
 impl FileDisk {
     /// The greatest length of a disk.
     const LIMIT: u64 = 1 << 62;
 
-    /// The file at a path, opened for reading and writing, and made where there is none.
+    /// The file at a path, opened for reading and writing, and made where there is none. It is locked
+    /// until the disk is dropped; where another process has locked it, it can't be opened. Neither can
+    /// one that would get a descriptor of the standard streams, nor a file without bytes whose folder
+    /// can't be synced.
     pub fn open(rt: &HostRuntime, path: &str) -> FileDisk
         ensures { faults_of result ≡ 0 }
     {
-        let file = OpenOptions::new()
-            .read(true)
-            .write(true)
-            .create(true)
-            .open(rt, path);
-        FileDisk { file, faults: 0 }
+        FileDisk {
+            file: open_alone(rt, path),
+            faults: 0,
+            error: None,
+        }
+    }
+
+    /// What the system said at the last failure, or nothing where no call failed.
+    pub fn error(&self) -> Option<io::Error>
+        ensures { is_some result ≡ tells_why self.now }
+    {
+        self.error
     }
 
     fn file(&self) -> io::Result<&File>
@@ -48,13 +59,15 @@ impl FileDisk {
         ensures fails { IsErr result ↔ IsErr answer }
         ensures uncounted { OnOk result (self.new ≡ self.old) }
         ensures counted { OnErr result (faults_of self.new ≡ next_count (faults_of self.old)) }
+        ensures told { OnErr result (IsTrue (tells_why self.new)) }
         ensures stays { is_open self.new ≡ is_open self.old }
         ensures later { faults_of self.old ≤ faults_of self.new }
     {
         match answer {
             Ok(value) => Ok(value),
-            Err(_) => {
+            Err(error) => {
                 self.faults = self.faults.saturating_add(1);
+                self.error = Some(error);
                 Err(Failed)
             }
         }
@@ -121,6 +134,7 @@ impl Disk for FileDisk {
         // file couldn't be opened.
         ensures uncounted { OnOk result (faults_of self.new ≡ faults_of self.old) }
         ensures counted { OnErr result (faults_of self.new ≡ next_count (faults_of self.old)) }
+        ensures told { OnErr result (IsTrue (tells_why self.new)) }
         ensures opened { IsOk result → IsTrue (is_open self.old) }
         ensures stays { is_open self.new ≡ is_open self.old }
     {
@@ -137,6 +151,7 @@ impl Disk for FileDisk {
         // file couldn't be opened.
         ensures uncounted { OnOk result (faults_of self.new ≡ faults_of self.old) }
         ensures counted { OnErr result (faults_of self.new ≡ next_count (faults_of self.old)) }
+        ensures told { OnErr result (IsTrue (tells_why self.new)) }
         ensures opened { IsOk result → IsTrue (is_open self.old) }
         ensures stays { is_open self.new ≡ is_open self.old }
     {
@@ -152,6 +167,7 @@ impl Disk for FileDisk {
         // file couldn't be opened.
         ensures uncounted { OnOk result (faults_of self.new ≡ faults_of self.old) }
         ensures counted { OnErr result (faults_of self.new ≡ next_count (faults_of self.old)) }
+        ensures told { OnErr result (IsTrue (tells_why self.new)) }
         ensures opened { IsOk result → IsTrue (is_open self.old) }
         ensures stays { is_open self.new ≡ is_open self.old }
     {
@@ -167,6 +183,7 @@ impl Disk for FileDisk {
         // file couldn't be opened.
         ensures uncounted { OnOk result (faults_of self.new ≡ faults_of self.old) }
         ensures counted { OnErr result (faults_of self.new ≡ next_count (faults_of self.old)) }
+        ensures told { OnErr result (IsTrue (tells_why self.new)) }
         ensures opened { IsOk result → IsTrue (is_open self.old) }
         ensures stays { is_open self.new ≡ is_open self.old }
     {

@@ -6,12 +6,12 @@ mod disk;
 mod file_disk;
 mod laws;
 mod mem_disk;
+mod opening;
 mod placing;
 mod replay;
 mod step;
 mod sure_disk;
-#[cfg(test)]
-mod tests;
+mod threads;
 
 pub use disk::{Disk, Failed};
 pub use file_disk::FileDisk;

@@ -1,6 +1,6 @@
 -- A writer of std as a sink: what one `put` did to the bytes that the writer holds, where std knows
 -- them.
-use Rattle.std.specs.Prelude.{ℕ, List, take, Option}
+use Rattle.std.specs.Prelude.{ℕ, Bool, List, take, Option, is_some}
 use Rattle.std.specs.Io.KnownBytes.{Appends}
 use Rattle.aw_io.specs.declared.sink.Gave.{Gave}
 use Rattle.aw_io.specs.declared.sink.Gave.TheVariants.{Put, Failed}
@@ -12,6 +12,10 @@ writer_of sink = sink.writer
 
 abbrev pub faults_of : {W : Type 0} → StdSink W → ℕ
 faults_of sink = sink.faults
+
+-- whether it tells what std said at the last failure
+abbrev pub tells_why : {W : Type 0} → StdSink W → Bool
+tells_why sink = is_some sink.error
 
 -- the bytes that went are those that the writer gained; of a failure nothing is said
 abbrev pub Writes : Gave → Option (List ℕ) → Option (List ℕ) → List ℕ → Type 0

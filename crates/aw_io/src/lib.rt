@@ -11,8 +11,7 @@ mod std_sink;
 mod std_source;
 mod sure_sink;
 mod sure_source;
-#[cfg(test)]
-mod tests;
+mod threads;
 
 pub use mem_sink::MemSink;
 pub use mem_source::MemSource;

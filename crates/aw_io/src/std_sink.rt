@@ -1,8 +1,8 @@
-ghost use Rattle.std.specs.Prelude.{◌≡◌, ◌<◌, ◌≤◌, None, IfOk, length, take};
+ghost use Rattle.std.specs.Prelude.{◌≡◌, ◌<◌, ◌≤◌, None, IfOk, IsTrue, is_some, length, take};
 ghost use Rattle.std.specs.Io.KnownBytes.{Appends};
 ghost use Rattle.aw_lists.specs.Faults.{Rose};
 ghost use Rattle.aw_io.specs.Sink.{Puts};
-ghost use Rattle.aw_io.specs.StdSink.{Writes, writer_of, faults_of, faults_after};
+ghost use Rattle.aw_io.specs.StdSink.{Writes, writer_of, faults_of, faults_after, tells_why};
 
 use crate::sink::{Gave, Sink};
 use std::io;
@@ -14,6 +14,7 @@ use std::io::Write;
 pub struct StdSink<W> {
     writer: W,
     faults: u64,
+    error: Option<io::Error>,
 }
 
 impl<W: Write + Drop> StdSink<W> {
@@ -22,7 +23,18 @@ impl<W: Write + Drop> StdSink<W> {
         ensures faults { faults_of result ≡ 0 }
         ensures writer { writer_of result ≡ writer }
     {
-        StdSink { writer, faults: 0 }
+        StdSink {
+            writer,
+            faults: 0,
+            error: None,
+        }
+    }
+
+    /// What std said at the last failure, or nothing where no call failed.
+    pub fn error(&self) -> Option<io::Error>
+        ensures { is_some result ≡ tells_why self.now }
+    {
+        self.error
     }
 }
 
@@ -39,15 +51,17 @@ impl<W: Write + Drop> Sink for StdSink<W> {
 
         // Only a failure counts. Where std knows what the writer holds, it gained these bytes.
         ensures counted { faults_of self.new ≡ faults_after (faults_of self.old) result }
+        ensures told { result ≡ Gave.Failed → IsTrue (tells_why self.new) }
         ensures writes { Writes result (W.contents (writer_of self.old)) (W.contents (writer_of self.new)) bytes.now }
     {
-        match write_through(&mut self.writer, bytes) {
-            Ok(count) if count > 0 => Gave::Put(count),
-            _ => {
-                self.faults = self.faults.saturating_add(1);
-                Gave::Failed
-            }
-        }
+        let error = match write_through(&mut self.writer, bytes) {
+            Ok(count) if count > 0 => return Gave::Put(count),
+            Ok(_) => io::ErrorKind::WriteZero.into(),
+            Err(error) => error,
+        };
+        self.faults = self.faults.saturating_add(1);
+        self.error = Some(error);
+        Gave::Failed
     }
 }
 

@@ -11,8 +11,7 @@ mod payload;
 mod put;
 mod read;
 mod settled;
-#[cfg(test)]
-mod tests;
+mod threads;
 
 pub use fault::{FormatFault, LoadFault};
 pub use formatting::format;

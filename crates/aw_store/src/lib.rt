@@ -6,10 +6,8 @@ pub mod laws;
 mod record_log;
 mod replay;
 mod store;
+mod threads;
 
 pub use aw_journal::LoadFault;
 pub use std::alloc::AllocError as NoMemory;
 pub use store::{Store, StoreFault};
-
-#[cfg(test)]
-mod tests;

@@ -7,6 +7,8 @@ use aw_cell::Text;
 use aw_disk::FileDisk;
 use aw_io::{StdSink, StdSource};
 use script_play::run;
+use std::fs::{File, OpenOptions};
+use std::os::fd::AsRawFd;
 use std::process::ExitCode;
 use std::rt::Env;
 use std::{env, io};
@@ -19,6 +21,20 @@ Makes a workspace in the file PATH, plays a script of definitions and session li
 writes the transcript, or writes what it holds.";
 
 const VERSION: &str = "olapdml 0.2.0";
+
+// The descriptors of the first and the last of the standard streams.
+const STANDARD_INPUT: i32 = 0;
+
+const STANDARD_ERROR: i32 = 2;
+
+// The statuses at which a device failed, or memory ran out (docs/LANGUAGE.md, "Statuses").
+const SCRIPT_FAILED: u8 = 3;
+
+const OUTPUT_FAILED: u8 = 4;
+
+const WORKSPACE_FAILED: u8 = 5;
+
+const NO_MEMORY: u8 = 6;
 
 /// The words of the command line: the path of the workspace, and the words behind it.
 #[derive(Drop)]
@@ -46,29 +62,65 @@ fn read_words<R: Env + AllocGlobal>(rt: &R) -> io::Result<CommandLine> {
     Ok(CommandLine { path, words })
 }
 
+/// Takes the lowest free descriptor where it is one of the standard streams: for standard input by a
+/// file that can't be read, and else by one that can't be written.
+fn take_lowest(rt: &HostRuntime) -> io::Result<Option<File>> {
+    let unread = OpenOptions::new().write(true).open(rt, "/dev/null")?;
+    if unread.as_raw_fd() == STANDARD_INPUT {
+        return Ok(Some(unread));
+    }
+    if unread.as_raw_fd() > STANDARD_ERROR {
+        return Ok(None);
+    }
+    drop(unread);
+    Ok(Some(File::open(rt, "/dev/null")?))
+}
+
+/// Says on standard error which device failed, and what the system said.
+fn complain(rt: &impl Eprint, device: &str, error: Option<io::Error>) {
+    if let Some(error) = error {
+        let _ = eprintln!(rt; "{device}: {error}");
+    }
+}
+
+fn complain_of_memory(rt: &impl Eprint) {
+    let _ = eprintln!(rt; "memory: none is left");
+}
+
 /// Does what the words say, on the workspace in this file.
 fn work(rt: &HostRuntime, path: &str, words: &[Text]) -> u8 {
     let mut disk = FileDisk::open(rt, path);
     let mut script = StdSource::new(rt.reader());
     let mut out = StdSink::new(io::writer(rt));
-    run(rt.alloc(), words, &mut script, &mut out, &mut disk)
+    let status = run(rt.alloc(), words, &mut script, &mut out, &mut disk);
+    match status {
+        SCRIPT_FAILED => complain(rt, "standard input", script.error()),
+        OUTPUT_FAILED => complain(rt, "standard output", out.error()),
+        WORKSPACE_FAILED => complain(rt, path, disk.error()),
+        NO_MEMORY => complain_of_memory(rt),
+        _ => {}
+    }
+    status
 }
 
 /// Prints a text that was asked for; a failure is the sink's.
-fn tell(rt: &impl Print, text: &str) -> u8 {
+fn tell(rt: &(impl Print + Eprint), text: &str) -> u8 {
     match rt.println(text) {
         Ok(()) => 0,
-        Err(_) => 4,
+        Err(error) => {
+            complain(rt, "standard output", Some(error));
+            OUTPUT_FAILED
+        }
     }
 }
 
-/// The status of a run that found no memory for its words.
-const NO_MEMORY: u8 = 6;
-
 fn main(rt: HostRuntime) -> ExitCode {
+    // Before any file is opened, and to the end: else a file would be read or written as a stream.
+    let _streams = [take_lowest(&rt), take_lowest(&rt), take_lowest(&rt)];
     let given = match read_words(&rt) {
         Ok(given) => given,
         Err(error) if error.kind() == io::ErrorKind::OutOfMemory => {
+            complain_of_memory(&rt);
             return ExitCode::from(NO_MEMORY);
         }
         // Words that aren't UTF-8 are no command.

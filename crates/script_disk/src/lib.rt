@@ -7,8 +7,6 @@ mod line;
 mod making;
 mod opening;
 mod saying;
-#[cfg(test)]
-mod tests;
 
 pub use dumping::dump;
 pub use making::make;

@@ -8,8 +8,6 @@ mod player;
 mod reading;
 mod response;
 mod stop;
-#[cfg(test)]
-mod tests;
 mod top;
 mod turn;
 mod world;

@@ -1,0 +1,3 @@
+4f 4c 41 50 4d 57 31 0a   # OLAPMW1 and LF
+00                         # the closed gate
+69 6c 65                   # what stood there means nothing

@@ -1,0 +1,4 @@
+4f 4c 41 50 4d 57 31 0a   # OLAPMW1 and LF
+01 00 00 00 0a             # an open gate, and the length
+44 01 00 01 01 76 03 02 00 00   # the definition of v, and a byte more
+00                         # the closed gate

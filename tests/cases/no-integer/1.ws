@@ -1,0 +1,6 @@
+4f 4c 41 50 4d 57 31 0a   # OLAPMW1 and LF
+01 00 00 00 09             # an open gate, and the length
+44 01 00 01 01 76 03 02 00   # the definition of v
+01 00 00 00 11             # an open gate, and the length
+43 01 00 01 00 00 4d 00 00 00 00 01 02 80 00 00 00   # v is set to no INTEGER
+00                         # the closed gate

@@ -1,0 +1,5 @@
+4f 4c 41 50 4d 57 31 0a   # OLAPMW1 and LF
+01 00 00 00 09             # an open gate, and the length
+44 01 00 01 01 76 03 02 00   # the definition of v
+01 00 00 00 00             # an open gate, and the length 0
+00                         # the closed gate
