@@ -11,6 +11,3 @@ line_ends 67108865 | "$program" ws play >out 2>err
 ended 10 $? "play of one byte more"
 has out "" "play of one byte more"
 has err "" "play of one byte more"
-(echo 'DEFINE v VARIABLE INTEGER'; echo 'a: AW ATTACH MULTI'; line_ends 67108864) | "$program" ws play >out 2>err
-ended 10 $? "play of a longer one"
-has out "a: ok\n" "play of a longer one"
