@@ -1,0 +1,6 @@
+mod Acts
+mod Closing
+mod Ends
+mod Lists
+mod Seating
+mod Steps
