@@ -1,4 +1,5 @@
 mod Acts
+pub mod CallerLemmas
 mod Closing
 mod Ends
 mod Lists

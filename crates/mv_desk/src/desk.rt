@@ -32,6 +32,7 @@ impl<M: Sequential> Model for Desk<M> {
 }
 
 /// Want of memory for a desk. The machine comes back.
+#[derive(Drop)]
 pub struct Unmade<M> {
     pub machine: M,
 }
@@ -53,6 +54,8 @@ impl<M: Sequential> Desk<M> {
         requires { (1 ≤ callers) × (callers ≤ 64) }
         ensures desk { IfOk result (λ r. (r.0.opening ≡ machine) × (r.0.callers ≡ callers)) }
         ensures passes { IfOk result (λ r. r.1 ≡ new_passes r.0) }
+        ensures own { IfOk result (λ r. All (IsPassOf r.0) r.1) }
+        ensures all { IfOk result (λ r. length r.1 ≡ callers) }
         ensures err { IfErr result (λ unmade. unmade.machine ≡ machine) }
     {
         let Ok(passes) = Vec::with_capacity(alloc, callers as usize) else {
@@ -131,6 +134,12 @@ impl<M: Sequential + Drop> Drop for Desk<M> {
             tickets: _,
             callers: _,
         } = self;
+    }
+}
+
+impl<M: Sequential + Drop> Drop for Unclosed<M> {
+    fn drop(self) {
+        let Unclosed { desk: _, passes: _ } = self;
     }
 }
 
