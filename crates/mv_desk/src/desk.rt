@@ -38,6 +38,7 @@ pub struct Unmade<M> {
 }
 
 /// A pass of the desk is missing. The desk and the passes that were handed in come back as they were.
+#[derive(Drop)]
 pub struct Unclosed<M: Sequential> {
     pub desk: Desk<M>,
     pub passes: List<Pass<M>>,
@@ -84,12 +85,7 @@ impl<M: Sequential> Desk<M> {
     /// Waits for the caller's turn, lets the machine take the entry, and passes the turn on. The answer
     /// is the place of this call in the desk history, from 0, and the machine's reply there. A caller
     /// that draws the ticket 2^64-1 waits for ever.
-    pub fn act(
-        &self,
-        rt: &impl Wait,
-        pass: &mut Pass<M>,
-        entry: &M::Entry,
-    ) -> (u64, M::Reply)
+    pub fn act(&self, rt: &impl Wait, pass: &mut Pass<M>, entry: &M::Entry) -> (u64, M::Reply)
         requires { IsPassOf self.now pass.old }
         ensures same { IsPassOf self.now pass.new × (pass.new.number ≡ pass.old.number) }
         ensures seen { Grows pass.old.seen (call_of pass.old.number entry.now result.1) pass.new.seen }
@@ -134,12 +130,6 @@ impl<M: Sequential + Drop> Drop for Desk<M> {
             tickets: _,
             callers: _,
         } = self;
-    }
-}
-
-impl<M: Sequential + Drop> Drop for Unclosed<M> {
-    fn drop(self) {
-        let Unclosed { desk: _, passes: _ } = self;
     }
 }
 

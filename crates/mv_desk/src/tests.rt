@@ -19,6 +19,7 @@ struct Trail {
 
 impl Sequential for Trail {
     type Entry = u64;
+
     type Reply = (u64, u64);
 
     ghost step = { λ before entry reply after. (reply ≡ (before.count, before.digest)) × (after.count ≡ (before.count + 1) % 2 ^ 64) × (after.digest ≡ (before.digest * 31 + entry) % 2 ^ 64) };
@@ -56,6 +57,17 @@ fn closed(desk: Desk<Trail>, passes: Vec<Pass<Trail>>) -> Option<(u64, u64)>
     }
 }
 
+// What comes back of a close that is refused.
+fn refused(desk: Desk<Trail>, passes: Vec<Pass<Trail>>) -> Option<(Desk<Trail>, Vec<Pass<Trail>>)>
+    requires { All (IsPassOf desk) passes.items }
+    ensures { IfSome result (λ r. All (IsPassOf r.0) r.1.items × (r.0 ≡ desk)) }
+{
+    match desk.close(List::from_vec(passes)) {
+        Ok(Trail { .. }) => None,
+        Err(Unclosed { desk, passes }) => Some((desk, passes.into_vec())),
+    }
+}
+
 // Whether an act at this place has this reply.
 fn tells<R: Wait>(
     rt: &R,
@@ -72,103 +84,92 @@ fn tells<R: Wait>(
     (found == place) & (reply.0 == place) & (reply.1 == digest)
 }
 
+// One caller twice, and then two one after the other.
+fn acts_in_turn<R: Wait>(
+    rt: &R,
+    desk: &Desk<Trail>,
+    first: &mut Pass<Trail>,
+    second: &mut Pass<Trail>,
+) -> bool
+    requires { IsPassOf desk.now first.old × IsPassOf desk.now second.old }
+    ensures { IsPassOf desk.now first.new × IsPassOf desk.now second.new }
+{
+    tells(rt, desk, first, 5, 0, 0)
+        & tells(rt, desk, first, 7, 1, 5)
+        & tells(rt, desk, second, 9, 2, 162)
+        & tells(rt, desk, first, 1, 3, 5031)
+}
+
 fn one_caller<R: Wait>(rt: &R, alloc: Global) -> Option<bool> {
     let (desk, mut passes) = opened(alloc, 1)?;
     let mut pass = passes.pop()?;
-    let told = tells(rt, &desk, &mut pass, 5, 0, 0) & tells(rt, &desk, &mut pass, 7, 1, 5);
+    let told = tells(rt, &desk, &mut pass, 5, 0, 0);
     passes.push_reserved(pass);
-    Some(told & (closed(desk, passes) == Some((2, 162))))
+    Some(told & (closed(desk, passes) == Some((1, 5))))
 }
 
-// Two callers, and a close without the second that is refused.
+// A close without the second pass is refused, and one with both is granted.
 fn two_callers<R: Wait>(rt: &R, alloc: Global) -> Option<bool> {
     let (desk, mut passes) = opened(alloc, 2)?;
     let mut second = passes.pop()?;
     let mut first = passes.pop()?;
-    let told = tells(rt, &desk, &mut second, 5, 0, 0)
-        & tells(rt, &desk, &mut first, 7, 1, 5)
-        & tells(rt, &desk, &mut second, 9, 2, 162);
+    let told = acts_in_turn(rt, &desk, &mut first, &mut second);
     passes.push_reserved(first);
-    let (desk, passes) = match desk.close(List::from_vec(passes)) {
-        Ok(_) => return None,
-        Err(Unclosed { desk, passes }) => (desk, passes),
-    };
-    let mut passes = passes.into_vec();
-    let few = passes.len() == 1;
+    let (desk, mut passes) = refused(desk, passes)?;
     passes.push(second).ok()?;
-    Some(told & few & (closed(desk, passes) == Some((3, 5031))))
+    Some(told & (closed(desk, passes) == Some((4, 155962))))
 }
 
-// What the calls of many threads were told, at their places in the history.
-#[derive(Drop)]
-struct Board {
-    entries: Vec<AtomicU64>,
-    digests: Vec<AtomicU64>,
-}
-
-impl Board {
-    fn new(alloc: Global, calls: usize) -> Option<Board> {
-        Some(Board {
-            entries: zeros(alloc, calls)?,
-            digests: zeros(alloc, calls)?,
-        })
-    }
-
-    // A second call that is told the same place spoils the entry there.
-    fn note(&self, place: u64, entry: u64, digest: u64) {
-        if let Some(found) = self.entries.get(place as usize) {
-            found.fetch_add(entry, Ordering::SeqCst);
-        }
-        if let Some(found) = self.digests.get(place as usize) {
-            found.fetch_add(digest, Ordering::SeqCst);
-        }
-    }
-
-    // The count and the digest after all calls, where each was told the digest of those before it.
-    fn replayed(&self) -> Option<(u64, u64)> {
-        let mut digest: u64 = 0;
-        for place in 0..self.entries.len() {
-            let entry = self.entries.get(place)?.load(Ordering::SeqCst);
-            if entry == 0 || self.digests.get(place)?.load(Ordering::SeqCst) != digest {
-                return None;
-            }
-            digest = digest.wrapping_mul(31).wrapping_add(entry);
-        }
-        Some((self.entries.len() as u64, digest))
-    }
-}
-
-fn zeros(alloc: Global, count: usize) -> Option<Vec<AtomicU64>> {
-    let mut words = Vec::new(alloc);
-    for _ in 0..count {
-        words.push(AtomicU64::new(0)).ok()?;
-    }
-    Some(words)
-}
-
-// Three acts of one caller.
-fn works<R: Wait>(rt: &R, desk: &Desk<Trail>, pass: &mut Pass<Trail>, board: &Board, entry: u64)
+// Three acts of one caller. It notes each digest that it is told at the place of the call, and the one
+// that it makes of it at the next place.
+fn works<R: Wait>(
+    rt: &R,
+    desk: &Desk<Trail>,
+    pass: &mut Pass<Trail>,
+    notes: &[AtomicU64],
+    entry: u64,
+)
     requires { IsPassOf desk.now pass.old }
     ensures { IsPassOf desk.now pass.new }
 {
     let (place, reply) = desk.act(rt, pass, &entry);
-    board.note(place, entry, reply.1);
+    note(notes, place, reply.1, entry);
     let (place, reply) = desk.act(rt, pass, &entry);
-    board.note(place, entry, reply.1);
+    note(notes, place, reply.1, entry);
     let (_, reply) = desk.act(rt, pass, &entry);
-    board.note(reply.0, entry, reply.1);
+    note(notes, reply.0, reply.1, entry);
 }
 
+fn note(notes: &[AtomicU64], place: u64, digest: u64, entry: u64) {
+    if let Some(here) = notes.get(place as usize) {
+        here.fetch_sub(digest, Ordering::SeqCst);
+    }
+    if let Some(next) = notes.get(place.wrapping_add(1) as usize) {
+        next.fetch_add(
+            digest.wrapping_mul(31).wrapping_add(entry),
+            Ordering::SeqCst,
+        );
+    }
+}
+
+// Each call was told the digest of the one before it, so all notes but the last come to 0.
 fn many_callers<R: Threads + Wait + Sync>(rt: &R, alloc: Global) -> Option<bool> {
     let (desk, mut passes) = opened(alloc, 64)?;
-    let board = Board::new(alloc, 192)?;
+    let mut notes = Vec::new(alloc);
+    for _ in 0..193 {
+        notes.push(AtomicU64::new(0)).ok()?;
+    }
     let shared = &desk;
-    let told = &board;
-    thread::for_each_mut(rt, passes.as_mut_slice(), 64, &|at, pass| {
-        works(rt, shared, pass, told, at as u64 + 1)
-    });
-    let end = closed(desk, passes);
-    Some(end.is_some() & (board.replayed() == end))
+    let told = notes.as_slice();
+    thread::for_each_mut(
+        rt,
+        passes.as_mut_slice(),
+        64,
+        &|at, pass| { works(rt, shared, pass, told, at as u64 + 1) },
+    );
+    let last = notes.pop()?.into_inner();
+    let zero = notes.iter().all(|note| note.load(Ordering::SeqCst) == 0);
+    Some(zero & (closed(desk, passes) == Some((192, last))))
 }
 
 #[test]
