@@ -1,13 +1,12 @@
 use crate::facts::PassFacts;
 use crate::sequential::Sequential;
-use crate::view::View;
-use atomic_table::Seat;
+use crate::view::SeatAt;
 use std::marker::Model;
 
 /// What a thread needs to take turns at a desk. Each has the number of one caller, and there are as
 /// many as callers. It takes no bytes, can be sent to another thread, and can't be copied.
 pub struct Pass<M: Sequential> {
-    pub(crate) seat: Seat<M, View<M, M::Entry, M::Reply>>,
+    pub(crate) seat: SeatAt<M>,
 }
 
 impl<M: Sequential> Model for Pass<M> {
@@ -25,7 +24,7 @@ impl<M: Sequential> Pass<M> {
     ghost use Rattle.std.specs.Prelude.{◌≡◌};
     ghost use Rattle.mv_desk.specs.inside.Seats.{seat_facts, IsReady};
 
-    pub(crate) fn into_seat(self) -> Seat<M, View<M, M::Entry, M::Reply>>
+    pub(crate) fn into_seat(self) -> SeatAt<M>
         ensures facts { seat_facts result ≡ self }
         ensures ready { IsReady result.me }
     {

@@ -9,15 +9,11 @@ use crate::pass::Pass;
 use crate::plays::{Joining, Parting};
 use crate::sequential::Sequential;
 use crate::tickets::TicketTable;
-use crate::view::View;
-use atomic_table::Seat;
+use crate::view::SeatAt;
 
 impl<M: Sequential> TicketTable<M> {
     // A seat for one more caller.
-    fn split(
-        &self,
-        seat: &mut Seat<M, View<M, M::Entry, M::Reply>>,
-    ) -> Seat<M, View<M, M::Entry, M::Reply>>
+    fn split(&self, seat: &mut SeatAt<M>) -> SeatAt<M>
         requires table { seat.old.table_id ≡ self.now.table.shared.table_id }
         requires count { (n : ℕ) × (seat.old.me.0.count ≡ Some n) × (n < self.now.table.shared.key.most) }
         ensures old { (seat.new.table_id ≡ seat.old.table_id) × (seat.new.me ≡ (splitting seat.old.me.0, seat.old.me.1)) }
@@ -27,11 +23,7 @@ impl<M: Sequential> TicketTable<M> {
     }
 
     // Takes in the callers of another seat.
-    fn join(
-        &self,
-        seat: &mut Seat<M, View<M, M::Entry, M::Reply>>,
-        other: Seat<M, View<M, M::Entry, M::Reply>>,
-    )
+    fn join(&self, seat: &mut SeatAt<M>, other: SeatAt<M>)
         requires table { (seat.old.table_id ≡ self.now.table.shared.table_id) × (other.table_id ≡ self.now.table.shared.table_id) }
         requires idle { (seat.old.me.0.ticket ≡ None) × IsIdle other.me }
         ensures { (seat.new.table_id ≡ seat.old.table_id) × (seat.new.me ≡ (joined seat.old.me.0 other.me.0, seat.old.me.1)) }
@@ -40,12 +32,7 @@ impl<M: Sequential> TicketTable<M> {
     }
 
     // The passes of all callers, where so far the first seat alone is there.
-    pub fn seat_all(
-        &self,
-        first: Seat<M, View<M, M::Entry, M::Reply>>,
-        passes: Vec<Pass<M>>,
-        callers: u32,
-    ) -> Vec<Pass<M>>
+    pub fn seat_all(&self, first: SeatAt<M>, passes: Vec<Pass<M>>, callers: u32) -> Vec<Pass<M>>
         requires callers { (1 ≤ callers) × (callers ≡ self.now.table.shared.key.most) }
         requires table { first.table_id ≡ self.now.table.shared.table_id }
         requires ready { IsReady first.me × (first.me.0.opening ≡ Some self.now.table.shared.key.opening.value) }
@@ -67,7 +54,7 @@ impl<M: Sequential> TicketTable<M> {
     }
 
     // All passes as one seat.
-    pub fn join_all(&self, mut passes: Vec<Pass<M>>) -> Seat<M, View<M, M::Entry, M::Reply>>
+    pub fn join_all(&self, mut passes: Vec<Pass<M>>) -> SeatAt<M>
         requires ready { All (λ pass. pass.table ≡ self.now.table.shared.table_id) passes.items }
         requires some { 0 < vec_len passes }
         ensures table { result.table_id ≡ self.now.table.shared.table_id }
@@ -85,7 +72,7 @@ impl<M: Sequential> TicketTable<M> {
     }
 
     // The machine of a table at which no other seat is left.
-    pub fn end(self, whole: Seat<M, View<M, M::Entry, M::Reply>>) -> M
+    pub fn end(self, whole: SeatAt<M>) -> M
         requires table { whole.table_id ≡ self.table.shared.table_id }
         requires idle { whole.me.0.turn ≡ false }
         requires all { self.table.shared.key.most ≤ length whole.me.0.callers }

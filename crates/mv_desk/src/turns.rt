@@ -9,14 +9,15 @@ use crate::plays::{Draw, Look, PassOn};
 use crate::rule::Said;
 use crate::sequential::Sequential;
 use crate::tickets::{MACHINE, SERVING, TICKET, TicketTable};
-use crate::view::View;
-use atomic_table::Seat;
+use crate::view::SeatAt;
 use std::marker::Brand;
 use std::sync::Wait;
-use std::thread;
+
+// How often a caller looks at serving before it sleeps.
+const LOOKS: u32 = 64;
 
 impl<M: Sequential> TicketTable<M> {
-    fn draw(&self, seat: &mut Seat<M, View<M, M::Entry, M::Reply>>) -> u64
+    fn draw(&self, seat: &mut SeatAt<M>) -> u64
         requires table { seat.old.table_id ≡ self.now.table.shared.table_id }
         requires idle { IsIdle seat.old.me }
         ensures table { seat.new.table_id ≡ seat.old.table_id }
@@ -26,7 +27,7 @@ impl<M: Sequential> TicketTable<M> {
     }
 
     // Looks at serving once, and takes the machine where it is the seat's turn.
-    fn look(&self, seat: &mut Seat<M, View<M, M::Entry, M::Reply>>) -> u64
+    fn look(&self, seat: &mut SeatAt<M>) -> u64
         requires table { seat.old.table_id ≡ self.now.table.shared.table_id }
         requires waits { seat.old.me.0.turn ≡ false }
         ensures table { (seat.new.table_id ≡ seat.old.table_id) × (seat.new.id ≡ seat.old.id) }
@@ -36,7 +37,7 @@ impl<M: Sequential> TicketTable<M> {
     }
 
     // Waits until serving is the ticket that was drawn.
-    fn wait<R: Wait>(&self, rt: &R, seat: &mut Seat<M, View<M, M::Entry, M::Reply>>, ticket: u64)
+    fn wait<R: Wait>(&self, rt: &R, seat: &mut SeatAt<M>, ticket: u64)
         requires table { seat.old.table_id ≡ self.now.table.shared.table_id }
         requires drawn { (d : ℕ) × (seat.old.me.0.ticket ≡ Some d) × (ticket ≡ d % 2 ^ 64) × (seat.old.me.0.turn ≡ false) }
         ensures table { seat.new.table_id ≡ seat.old.table_id }
@@ -47,13 +48,35 @@ impl<M: Sequential> TicketTable<M> {
             if ticket < u64::MAX && self.look(seat) == ticket {
                 return;
             }
-            thread::yield_now();
+            self.pause(rt, ticket);
         }
         unreachable!()
     }
 
+    // Looks for a while, and then sleeps until serving changes, unless it is the ticket.
+    fn pause<R: Wait>(&self, rt: &R, ticket: u64) {
+        for _ in 0..LOOKS {
+            if self.table.shared.peek(SERVING) == ticket {
+                return;
+            }
+        }
+        let found = self.table.shared.peek(SERVING);
+        if found != ticket {
+            self.table
+                .shared
+                .park(rt, SERVING, (found % (1 << 32)) as u32);
+        }
+    }
+
+    // Wakes the callers that wait behind this place, if there are any.
+    fn wake(&self, place: u64) {
+        if self.table.shared.peek(TICKET) != place.wrapping_add(1) {
+            self.table.shared.wake_all(SERVING);
+        }
+    }
+
     // The machine takes the entry.
-    fn work(&self, seat: &mut Seat<M, View<M, M::Entry, M::Reply>>, entry: &M::Entry) -> M::Reply
+    fn work(&self, seat: &mut SeatAt<M>, entry: &M::Entry) -> M::Reply
         requires table { seat.old.table_id ≡ self.now.table.shared.table_id }
         requires holds { (x : M) × (seat.old.me.1 ≡ (0, x) ∷ []) }
         ensures table { seat.new.table_id ≡ seat.old.table_id }
@@ -66,7 +89,7 @@ impl<M: Sequential> TicketTable<M> {
     // Gives the machine back and passes the turn on. The entry and the reply join the history here.
     fn pass_on<W: Said<Call<M::Entry, M::Reply>>>(
         &self,
-        seat: &mut Seat<M, View<M, M::Entry, M::Reply>>,
+        seat: &mut SeatAt<M>,
         _entry: &M::Entry,
         _reply: &M::Reply,
     )
@@ -83,7 +106,7 @@ impl<M: Sequential> TicketTable<M> {
     pub fn take_turn<R: Wait>(
         &self,
         rt: &R,
-        seat: &mut Seat<M, View<M, M::Entry, M::Reply>>,
+        seat: &mut SeatAt<M>,
         entry: &M::Entry,
     ) -> (u64, M::Reply)
         requires table { seat.old.table_id ≡ self.now.table.shared.table_id }
@@ -102,6 +125,7 @@ impl<M: Sequential> TicketTable<M> {
         self.wait(rt, seat, place);
         let reply = self.work(seat, entry);
         self.pass_on::<Brand>(seat, entry, &reply);
+        self.wake(place);
         (place, reply)
     }
 }

@@ -1,5 +1,7 @@
 // What a seat at the table of a desk knows. No value of these is made.
 use crate::history::Call;
+use crate::sequential::Sequential;
+use atomic_table::Seat;
 use std::collections::LinkedList;
 
 // A caller: its number, the beginning of the history that it has seen, and its own calls.
@@ -21,3 +23,6 @@ pub struct View<M, E, R> {
     // With the turn, the whole history.
     pub copy: LinkedList<Call<E, R>>,
 }
+
+// A seat at the table of a desk over this machine.
+pub type SeatAt<M> = Seat<M, View<M, <M as Sequential>::Entry, <M as Sequential>::Reply>>;

@@ -1,4 +1,4 @@
--- The rule of the table of a desk. Word 0 is the ticket, word 1 is serving, and the slot has the machine where it is at home.
+-- The rule of the table of a desk. Word 0 is the ticket, word 1 is serving, and the slot has the machine where no seat has it out.
 --     Kept opening most s      the rule
 --     Knows .. i v             what it says of the view v at the seat i
 --     Whole step opening most callers m      one legal history leads to the machine m; it has the calls of these callers and of no others, and each number below `most` stands once among them

@@ -1,7 +1,7 @@
 -- The five kinds of step at the table of a desk, and what each tells the seat that makes it. `Me` is a seat's view and the slots that it holds.
 --     drew        to draw a ticket: an add to the ticket word, and the view has the number of the draw
 --     looked      to look at serving: where it is the ticket, the view has the turn and a copy of the history, and the seat the machine
---     passed      to pass the turn on, with a call: an add to serving, by which the call joins the history and the machine goes home
+--     passed      to pass the turn on, with a call: an add to serving, by which the call joins the history and the machine goes back into the slot
 --     splitting, split_off      to split a seat: one more caller, whose number is the count, in a view of its own
 --     joined, nobody            to join a seat: its callers come first, and nothing is left of it
 use Rattle.std.specs.Prelude.{◌≡◌, ◌≢◌, ℕ, ◌+◌, ◌%◌, ◌^◌, List, [], ◌∷◌, ◌++◌, length, true, false, Option, Some, None}
