@@ -1,6 +1,5 @@
 -- What the four parts of an act come to.
-use Rattle.std.proofs.Common.{◌≡◌, ◌≢◌, ℕ, ◌+◌, ◌%◌, ◌^◌, List, [], ◌∷◌, ◌++◌, length, get_or, sym, refl, ap, ◌∙◌, subst, Option, Some, None}
-use Rattle.std.proofs.lemmas.Option.{same_Some}
+use Rattle.std.proofs.Common.{◌≡◌, ℕ, List, [], ◌∷◌, ◌++◌, get_or, sym, refl, ap, ◌∙◌, subst, Some}
 use Rattle.atomic_table.specs.Table.{Me}
 use Rattle.mv_desk.specs.declared.history.Call.{Call}
 use Rattle.mv_desk.specs.declared.view.Caller.{Caller}

@@ -1,11 +1,10 @@
 -- For callers: what `new_passes` has, and what follows of a history from a part of it.
-use Rattle.std.proofs.Common.{◌≡◌, ℕ, zero, suc, ◌+◌, ◌<◌, List, [], ◌∷◌, ◌++◌, map, length, sym, refl, ap, ◌∙◌, subst, arith, All, Some, None, slice_get, Option}
+use Rattle.std.proofs.Common.{◌≡◌, ℕ, zero, suc, ◌+◌, List, [], ◌∷◌, ◌++◌, map, length, refl, subst, All}
 use Rattle.std.specs.List.{AllByRecursion, range_with_len}
 use Rattle.std.proofs.lemmas.List.Elements.{All-from_recursion}
 use Rattle.std.proofs.lemmas.List.FromFn.{length-map-range_with_len}
 use Rattle.mv_desk.specs.declared.history.Call.{Call}
 use Rattle.mv_desk.specs.declared.facts.DeskFacts.{DeskFacts}
-use Rattle.mv_desk.specs.declared.facts.PassFacts.{PassFacts}
 use Rattle.mv_desk.specs.History.{StartsWith, Leads, IsLegal}
 use Rattle.mv_desk.specs.Passes.{IsPassOf, new_pass, new_passes}
 

@@ -1,5 +1,5 @@
 -- What the seats of all passes, put together, say of the passes; and which number is missing where there are too few.
-use Rattle.std.proofs.Common.{◌≡◌, ◌≢◌, ℕ, zero, suc, ◌+◌, ◌<◌, ◌≤◌, Bool, true, false, cond, eqb, ltb, List, [], ◌∷◌, map, length, sym, refl, ap, ◌∙◌, subst, ⊎_elim, ◌⊎◌, inl, inr, arith, eq-eqb, ne_eqb, lt-ltb, le-ltb, All}
+use Rattle.std.proofs.Common.{◌≡◌, ◌≢◌, ℕ, zero, suc, ◌+◌, ◌<◌, ◌≤◌, Bool, true, false, cond, eqb, ltb, List, [], ◌∷◌, map, length, sym, refl, ap, ◌∙◌, subst, ⊎_elim, ◌⊎◌, inl, inr, arith, eq-eqb, ne_eqb, lt-ltb}
 use Rattle.std.specs.List.{AllByRecursion}
 use Rattle.std.proofs.lemmas.List.Elements.{All-from_recursion, recursion_from_All}
 use mathlib.Core.Logic.{dite}
@@ -8,11 +8,10 @@ use Rattle.mv_desk.specs.declared.history.Call.{Call}
 use Rattle.mv_desk.specs.declared.facts.DeskFacts.{DeskFacts}
 use Rattle.mv_desk.specs.declared.facts.PassFacts.{PassFacts}
 use Rattle.mv_desk.specs.declared.view.Caller.{Caller}
-use Rattle.mv_desk.specs.History.{Leads}
 use Rattle.mv_desk.specs.Passes.{Fits, IsMissing, ClosesAs}
 use Rattle.mv_desk.specs.inside.Rule.{times, AreOf, Below, once_below, Whole}
 use Rattle.mv_desk.specs.inside.Seats.{caller_of}
-use Rattle.mv_desk.proofs.Lists.{once_next, once_zero}
+use Rattle.mv_desk.proofs.Lists.{once_next}
 
 -- A list of fewer than n numbers lacks one of those below n
 abbrev Lacks : ℕ → List ℕ → Type 0

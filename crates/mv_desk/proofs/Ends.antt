@@ -1,5 +1,5 @@
 -- Seats that are split and joined keep the rule, and what it says at the start and at the end.
-use Rattle.std.proofs.Common.{◌≡◌, ◌≢◌, ℕ, zero, suc, ◌+◌, ◌%◌, ◌^◌, ◌<◌, ◌≤◌, Bool, true, false, cond, eqb, ltb, List, [], ◌∷◌, ◌++◌, map, length, set, get_or, sym, refl, ap, ◌∙◌, subst, ⊎_elim, inl, inr, arith, Option, Some, None, length-append}
+use Rattle.std.proofs.Common.{◌≡◌, ◌≢◌, ℕ, zero, suc, ◌+◌, ◌<◌, ◌≤◌, false, cond, eqb, List, [], ◌∷◌, ◌++◌, length, set, sym, refl, ap, ◌∙◌, subst, ⊎_elim, arith, Option, Some, None, length-append}
 use Rattle.std.proofs.lemmas.Option.{none-some, same_Some}
 use Rattle.std.proofs.lemmas.Bool.{false≢true}
 use mathlib.Core.Logic.{dite}
@@ -8,13 +8,10 @@ use mathlib.Core.Option as maybe
 use native.Mathlib.Decide.{ℕ_discrete}
 use lib.ListN.{get_elem?}
 use Rattle.atomic_table.specs.Table.{State, Splits, Joins, opening}
-use Rattle.atomic_table.proofs.Lists.{at_set, set_else, at_snoc, at_longer}
-use Rattle.mv_desk.specs.declared.history.Call.{Call}
+use Rattle.atomic_table.proofs.Lists.{set_else, at_snoc, at_longer}
 use Rattle.mv_desk.specs.declared.view.Caller.{Caller}
 use Rattle.mv_desk.specs.declared.view.View.{View}
-use Rattle.mv_desk.specs.History.{Leads}
-use Rattle.mv_desk.specs.inside.Rule.{total, times, AreOf, Below, once_below, waits_at, homes_of, waits, size, numbered, newcomer, Knows, Kept, Whole}
-use Rattle.mv_desk.specs.inside.Seats.{fresh}
+use Rattle.mv_desk.specs.inside.Rule.{total, Below, once_below, waits_at, homes_of, waits, size, numbered, newcomer, Knows, Kept, Whole}
 use Rattle.mv_desk.specs.inside.Steps.{count_or, more, either_count, splitting, split_off, joined, nobody}
 use Rattle.mv_desk.proofs.Lists.{total_set, total_one, total_two, total_snoc, total_only, each_set, here, below_more, no_calls, times_append, are_append, times_none, once_next, once_zero}
 use Rattle.mv_desk.proofs.Steps.{apart_set}

@@ -1,14 +1,14 @@
 -- Totals over views, prefixes, and the entries of one caller.
-use Rattle.std.proofs.Common.{◌≡◌, ◌≢◌, ℕ, zero, suc, ◌+◌, ◌%◌, ◌^◌, ◌<◌, ◌≤◌, Bool, true, false, cond, eqb, ltb, List, [], ◌∷◌, ◌++◌, length, set, sym, refl, ap, ◌∙◌, subst, ⊎_elim, inl, inr, arith, Option, Some, None, eq-eqb, ne_eqb, le-ltb, lt-ltb}
+use Rattle.std.proofs.Common.{◌≡◌, ◌≢◌, ℕ, zero, suc, ◌+◌, ◌<◌, ◌≤◌, Bool, true, false, cond, eqb, List, [], ◌∷◌, ◌++◌, length, set, sym, refl, ap, ◌∙◌, subst, ⊎_elim, arith, Option, Some, None, eq-eqb, ne_eqb, le-ltb, lt-ltb}
 use mathlib.Core.Logic.{dite}
-use mathlib.Core.Option.{some, none, some-injective, some-ne-none}
+use mathlib.Core.Option.{some, some-injective, some-ne-none}
 use native.Mathlib.Decide.{ℕ_discrete, dec_le}
 use lib.ListN.{get_elem?}
-use Rattle.atomic_table.proofs.Lists.{at_set, set_here, set_else}
+use Rattle.atomic_table.proofs.Lists.{at_set}
 use Rattle.mv_desk.specs.declared.history.Call.{Call}
 use Rattle.mv_desk.specs.declared.view.Caller.{Caller}
 use Rattle.mv_desk.specs.History.{StartsWith, calls_by}
-use Rattle.mv_desk.specs.inside.Rule.{total, times, IsOf, AreOf, Below, once_below}
+use Rattle.mv_desk.specs.inside.Rule.{total, times, AreOf, Below, once_below}
 
 pub unsome : Option ℕ → ℕ
 unsome None = 0

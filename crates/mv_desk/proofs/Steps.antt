@@ -1,5 +1,5 @@
 -- Each step keeps the rule.
-use Rattle.std.proofs.Common.{◌≡◌, ◌≢◌, ℕ, zero, suc, ◌+◌, ◌%◌, ◌^◌, ◌<◌, ◌≤◌, Bool, true, false, cond, eqb, ltb, List, [], ◌∷◌, ◌++◌, length, set, get_or, sym, refl, ap, ◌∙◌, subst, ⊎_elim, inl, inr, arith, Option, Some, None, length-append, append-nil, ltb-true}
+use Rattle.std.proofs.Common.{◌≡◌, ◌≢◌, ℕ, ◌+◌, ◌%◌, ◌^◌, ◌<◌, ◌≤◌, Bool, true, false, cond, ltb, List, [], ◌∷◌, ◌++◌, length, set, get_or, sym, refl, ap, ◌∙◌, subst, ⊎_elim, arith, Option, Some, None, length-append, append-nil, ltb-true}
 use Rattle.std.proofs.lemmas.Option.{none-some, same_Some}
 use Rattle.std.proofs.lemmas.Bool.{false≢true}
 use Rattle.std.proofs.Math.Nat.{mod-add-mod, mod-eq_of_lt}
@@ -9,15 +9,15 @@ use mathlib.Core.Option as maybe
 use native.Mathlib.Decide.{ℕ_discrete}
 use lib.ListN.{get_elem?}
 use lib.Seq.{set-get_or}
-use Rattle.atomic_table.specs.Table.{State, Me, step, Act, Valid, carried_after, rest, keeps, takes, gives, stepped, homes_after, Allows, Enters, Splits, Joins, opening}
-use Rattle.atomic_table.proofs.Lists.{at_set, set_here, set_else, set_again, at_snoc, at_map, one_turn}
+use Rattle.atomic_table.specs.Table.{State, step, Act, Valid, carried_after, rest, keeps, takes, gives, stepped, homes_after, Allows}
+use Rattle.atomic_table.proofs.Lists.{at_set, set_else, set_again, one_turn}
 use Rattle.mv_desk.specs.declared.history.Call.{Call}
 use Rattle.mv_desk.specs.declared.view.Caller.{Caller}
 use Rattle.mv_desk.specs.declared.view.View.{View}
-use Rattle.mv_desk.specs.History.{StartsWith, calls_by, Leads}
-use Rattle.mv_desk.specs.inside.Rule.{total, times, IsOf, AreOf, Below, once_below, waits_at, homes_of, waits, size, numbered, Knows, Kept}
+use Rattle.mv_desk.specs.History.{Leads}
+use Rattle.mv_desk.specs.inside.Rule.{total, times, AreOf, once_below, waits_at, homes_of, waits, size, numbered, Knows, Kept}
 use Rattle.mv_desk.specs.inside.Steps.{waiting, taking, served_as, served, drew, looked, passed}
-use Rattle.mv_desk.proofs.Lists.{total_set, total_one, total_two, total_le, each_set, here, assoc, starts_longer, calls_snoc, calls_other, times_here, are_longer, below_snoc}
+use Rattle.mv_desk.proofs.Lists.{total_set, total_one, total_two, total_le, each_set, here, calls_snoc, times_here, are_longer, below_snoc}
 
 module _ {S E R : Type 0} (go : S → E → R → S → Type 0) (o : S) (most : ℕ) where
   abbrev V : Type 0

@@ -1,4 +1,4 @@
-use Rattle.std.proofs.Common.{rules, ◌≡◌, ◌<◌, length, map, sym, refl, ap, ◌∙◌}
+use Rattle.std.proofs.Common.{rules, ◌<◌, length, map, refl, ap, ◌∙◌}
 use Rattle.std.proofs.lemmas.Bool.{false≢true}
 use Rattle.mv_desk.specs.inside.Seats.{caller_of}
 use Rattle.mv_desk.proofs.Closing.{whole_of, closed, missing, not_missing}

@@ -1,4 +1,4 @@
-use Rattle.std.proofs.Common.{arith, ◌≡◌, ◌≤◌, ◌∷◌, [], List, length, subst, sym, ap, ◌∙◌}
+use Rattle.std.proofs.Common.{arith, ◌≡◌, ◌≤◌, length, sym, ap, ◌∙◌}
 use mathlib.Core.Option.{some-injective}
 use Rattle.mv_desk.proofs.Ends.{closes, whole_same}
 use Rattle.mv_desk.proofs.tickets.TicketTable.end.Goals as goal

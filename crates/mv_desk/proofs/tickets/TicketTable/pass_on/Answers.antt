@@ -1,4 +1,4 @@
-use Rattle.std.proofs.Common.{rules, sym, ap, ◌∙◌}
+use Rattle.std.proofs.Common.{rules}
 use Rattle.mv_desk.proofs.Steps.{passes}
 use Rattle.mv_desk.proofs.tickets.TicketTable.pass_on.Goals as goal
 

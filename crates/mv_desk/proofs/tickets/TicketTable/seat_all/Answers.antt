@@ -1,4 +1,4 @@
-use Rattle.std.proofs.Common.{rules, arith, ◌≡◌, ◌+◌, ◌-◌, ◌∷◌, ◌++◌, [], List, drop, take, length, vec_len, sym, ap, ◌∙◌, subst}
+use Rattle.std.proofs.Common.{rules, arith, ◌≡◌, ◌+◌, ◌-◌, ◌++◌, drop, take, length, vec_len, sym, ap, ◌∙◌, subst}
 use Rattle.mv_desk.specs.declared.facts.DeskFacts.{DeskFacts}
 use Rattle.mv_desk.specs.inside.Seats.{seat_facts}
 use Rattle.mv_desk.proofs.Seating.{Seated, goes_on, turned_round, all_made}

@@ -1,4 +1,4 @@
-use Rattle.std.proofs.Common.{◌≡◌, ◌+◌, ◌≤◌, ◌-◌}
+use Rattle.std.proofs.Common.{◌+◌, ◌≤◌, ◌-◌}
 use Rattle.mv_desk.proofs.Seating.{Seated}
 use Rattle.mv_desk.proofs.tickets.TicketTable.seat_all.Given as goal
 
