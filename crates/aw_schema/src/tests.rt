@@ -1,32 +1,27 @@
-ghost use Rattle.std.specs.Prelude.{IsTrue};
+ghost use Rattle.std.specs.Prelude.{IsTrue, ◌≤◌, length};
 ghost use Rattle.aw_schema.specs.Definitions.{has_form};
 
 use crate::{Catalogue, Def, DefKind, SchemaFault};
 use aw_cell::{Kind, Text, is_name};
 use aw_lists::{Coord, List};
+use std::alloc::Global;
 use std::test::Fail;
 
-/// What the catalogue answers to a definition, or `None` where the name is none.
-fn checked(
+/// Whether this is what the catalogue answers to a definition.
+fn answers(
     catalogue: &mut Catalogue,
     name: &[u8],
     kind: DefKind,
-) -> Option<Result<u16, SchemaFault>>
+    expected: Result<u16, SchemaFault>,
+) -> bool
     requires { IsTrue (has_form kind) }
 {
     if !is_name(name) {
-        return None;
+        return false;
     }
-    let name = Text::of(name)?;
-    Some(catalogue.check(Def { name, kind }))
-}
-
-fn variable(dimensions: Coord) -> DefKind
-    ensures { IsTrue (has_form result) }
-{
-    DefKind::Variable {
-        kind: Kind::Int,
-        dimensions,
+    match Text::of(name) {
+        Some(name) => catalogue.check(Def { name, kind }) == expected,
+        None => false,
     }
 }
 
@@ -36,72 +31,105 @@ fn relation(target: u16, base: u16) -> DefKind
     DefKind::Relation { target, base }
 }
 
-#[test]
-fn the_first_refusal_decides(rt: HostRuntime) -> Result<(), Fail> {
-    let alloc = rt.alloc();
-    let mut catalogue = Catalogue::new(alloc);
-    let d = Text::of(b"d").ok_or("a text")?;
-    let r = Text::of(b"r").ok_or("a text")?;
-    let twice = Coord::of(&[0, 1, 0]).ok_or("three")?;
-    let answers = [
-        checked(&mut catalogue, b"d", DefKind::Dimension),
-        checked(&mut catalogue, b"D", relation(9, 9)),
-        checked(&mut catalogue, b"e", DefKind::Dimension),
-        checked(&mut catalogue, b"r", relation(1, 0)),
-        checked(&mut catalogue, b"s", relation(2, 9)),
-        checked(&mut catalogue, b"s", DefKind::Valueset { dimension: 2 }),
-        checked(&mut catalogue, b"v", variable(twice)),
-    ];
-    let expected = [
-        Some(Ok(0)),
-        Some(Err(SchemaFault::Repeat(d))),
-        Some(Ok(1)),
-        Some(Ok(2)),
-        Some(Err(SchemaFault::Unknown(9))),
-        Some(Err(SchemaFault::WrongKind(r))),
-        Some(Err(SchemaFault::Repeat(d))),
-    ];
-    assert_eq!(rt; answers, expected);
-    assert_eq!(rt; catalogue.record_len(), 17);
-    let both = Coord::of(&[0, 1]).ok_or("two")?;
-    let last = checked(&mut catalogue, b"v", variable(both));
-    assert_eq!(rt; last, Some(Ok(3)));
-    assert_eq!(rt; catalogue.record_len(), 26);
-    assert_eq!(rt; catalogue.find(&Text::of(b"V").ok_or("a text")?), Some(3));
-    assert_eq!(rt; catalogue.find(&Text::of(b"w").ok_or("a text")?), None);
-    let defined = catalogue.def(2).ok_or("a relation")?;
-    assert_eq!(rt; defined.name, r);
-    assert_eq!(rt; defined.kind, relation(1, 0));
-    assert!(rt; catalogue.def(4).is_none());
-    Ok(())
+fn variable(dimensions: &[u16]) -> DefKind
+    requires { length dimensions.now ≤ 6 }
+    ensures { IsTrue (has_form result) }
+{
+    DefKind::Variable {
+        kind: Kind::Int,
+        dimensions: Coord::of(dimensions).unwrap(),
+    }
 }
 
-#[test]
-fn holds_4096_objects(rt: HostRuntime) -> Result<(), Fail> {
-    let alloc = rt.alloc();
+fn repeat(name: &[u8]) -> Result<u16, SchemaFault> {
+    match Text::of(name) {
+        Some(name) => Err(SchemaFault::Repeat(name)),
+        None => Err(SchemaFault::NoMemory),
+    }
+}
+
+fn wrong_kind(name: &[u8]) -> Result<u16, SchemaFault> {
+    match Text::of(name) {
+        Some(name) => Err(SchemaFault::WrongKind(name)),
+        None => Err(SchemaFault::NoMemory),
+    }
+}
+
+fn finds(catalogue: &Catalogue, name: &[u8], expected: Option<u16>) -> bool {
+    match Text::of(name) {
+        Some(name) => catalogue.find(&name) == expected,
+        None => false,
+    }
+}
+
+fn the_first_refusal_decides(alloc: Global) -> bool {
+    let mut catalogue = Catalogue::new(alloc);
+    let set = DefKind::Valueset { dimension: 2 };
+    let dimensions = answers(&mut catalogue, b"d", DefKind::Dimension, Ok(0))
+        & answers(&mut catalogue, b"D", relation(9, 9), repeat(b"d"))
+        & answers(&mut catalogue, b"e", DefKind::Dimension, Ok(1));
+    let relations = answers(&mut catalogue, b"r", relation(1, 0), Ok(2))
+        & answers(
+            &mut catalogue,
+            b"s",
+            relation(2, 9),
+            Err(SchemaFault::Unknown(9)),
+        )
+        & answers(&mut catalogue, b"s", set, wrong_kind(b"r"));
+    let variables = answers(&mut catalogue, b"v", variable(&[0, 1, 0]), repeat(b"d"))
+        & answers(&mut catalogue, b"v", variable(&[0, 1]), Ok(3));
+    dimensions
+        & relations
+        & variables
+        & (catalogue.record_len() == 26)
+        & finds(&catalogue, b"V", Some(3))
+        & finds(&catalogue, b"w", None)
+        & catalogue.def(3).is_some()
+        & catalogue.def(4).is_none()
+}
+
+/// A catalogue of formulas, as many as there may be.
+fn full(alloc: Global) -> Option<Catalogue> {
     let mut catalogue = Catalogue::new(alloc);
     for first in b'a'..=b'p' {
         for second in b'a'..=b'p' {
             for third in b'a'..=b'p' {
-                let text = List::from_slice(alloc, b"1")?;
+                let text = List::new(alloc);
+                let name = [b'z', first, second, third];
+                if !is_name(&name) {
+                    return None;
+                }
+                let name = Text::of(&name)?;
                 let kind = DefKind::Formula { text };
-                let _ = checked(&mut catalogue, &[b'z', first, second, third], kind);
+                if catalogue.check(Def { name, kind }).is_err() {
+                    return None;
+                }
             }
         }
     }
-    assert_eq!(rt; catalogue.len(), 4_096);
-    assert_eq!(rt; catalogue.record_len(), 45_060);
-    let there = Text::of(b"zaab").ok_or("a text")?;
-    let answers = [
-        checked(&mut catalogue, b"ZAAB", DefKind::Dimension),
-        checked(&mut catalogue, b"y", relation(9_999, 0)),
-    ];
-    let expected = [
-        Some(Err(SchemaFault::Repeat(there))),
-        Some(Err(SchemaFault::TooMany)),
-    ];
-    assert_eq!(rt; answers, expected);
-    assert_eq!(rt; catalogue.find(&there), Some(1));
+    Some(catalogue)
+}
+
+fn a_full_one_takes_no_more(alloc: Global) -> bool {
+    let Some(mut catalogue) = full(alloc) else {
+        return false;
+    };
+    answers(&mut catalogue, b"ZAAB", DefKind::Dimension, repeat(b"zaab"))
+        & answers(
+            &mut catalogue,
+            b"y",
+            relation(9, 0),
+            Err(SchemaFault::TooMany),
+        )
+        & (catalogue.len() == 4_096)
+        & (catalogue.record_len() == 40_964)
+        & finds(&catalogue, b"ZAAB", Some(1))
+}
+
+#[test]
+fn refuses_in_order(rt: HostRuntime) -> Result<(), Fail> {
+    assert!(rt; the_first_refusal_decides(rt.alloc()));
+    assert!(rt; a_full_one_takes_no_more(rt.alloc()));
     Ok(())
 }
 
