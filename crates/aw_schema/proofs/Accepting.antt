@@ -1,5 +1,5 @@
 -- What holds of a catalogue when one more definition is accepted.
-use Rattle.std.specs.Prelude.{ℕ, ◌≡◌, List, [], ◌∷◌, ◌++◌, None, IsTrue}
+use Rattle.std.specs.Prelude.{◌≡◌, List, [], ◌∷◌, ◌++◌, None, IsTrue}
 use Rattle.std.proofs.Common.{sym, subst, append_assoc, append-nil}
 use Rattle.aw_schema.specs.declared.definition.Def.{Def}
 use Rattle.aw_schema.specs.Definitions.{is_spellable}

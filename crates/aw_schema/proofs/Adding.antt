@@ -1,7 +1,6 @@
 -- How the index takes a definition that isn't refused.
-use Rattle.std.specs.Prelude.{ℕ, ◌≡◌, ◌+◌, ◌*◌, ◌<◌, ◌≤◌, ◌∷◌, ◌++◌, Bool, List, [], length, map, find, Option, Some, None, is_some, IsTrue}
+use Rattle.std.specs.Prelude.{ℕ, ◌≡◌, ◌+◌, ◌<◌, ◌≤◌, ◌∷◌, ◌++◌, Bool, List, [], length, map, find, Option, Some, None, is_some, IsTrue}
 use Rattle.std.specs.Global.{Vec}
-use Rattle.std.specs.List.{sum_by}
 use Rattle.std.specs.Option.{option_or, option_map}
 use Rattle.std.specs.Str.{bytes_eq}
 use Rattle.std.proofs.Common.{◌∙◌, ap, ap₂, sym, refl, subst, arith, length-append}
@@ -15,7 +14,7 @@ use Rattle.aw_cell.specs.Names.{is_name, lowercase}
 use Rattle.aw_schema.specs.declared.definition.Def.{Def}
 use Rattle.aw_schema.specs.declared.fault.SchemaFault.TheVariants.{Repeat}
 use Rattle.aw_schema.specs.Definitions.{is_spellable, has_form, has_name, object_of}
-use Rattle.aw_schema.specs.Checking.{AreAccepted, refusal, repeated_name, too_many, wrong_objects}
+use Rattle.aw_schema.specs.Checking.{AreAccepted, refusal, repeated_name}
 use Rattle.aw_schema.specs.RecordLength.{definition_len, record_len}
 use Rattle.aw_schema.specs.inside.Indexed.{IsIndexed}
 use Rattle.aw_schema.proofs.Finding.{object_of-indexed, found-same}

@@ -1,5 +1,5 @@
 -- How names are found in the index, and first places.
-use Rattle.std.specs.Prelude.{ℕ, ◌≡◌, ◌+◌, ◌<◌, ◌≤◌, Bool, true, false, List, [], ◌∷◌, zero, suc, is_some, length, map, Option, Some, None, position, find, not, slice_get}
+use Rattle.std.specs.Prelude.{ℕ, ◌≡◌, ◌+◌, ◌<◌, ◌≤◌, Bool, true, List, [], ◌∷◌, zero, suc, is_some, length, map, Some, None, position, find, not, slice_get}
 use Rattle.std.specs.List.{prefix_len, position_or_len}
 use Rattle.std.specs.Option.{option_and_then, option_map}
 use Rattle.std.specs.Global.{Vec}
@@ -12,7 +12,6 @@ use Rattle.std.proofs.lemmas.Bool.{cases_lt}
 use Rattle.indexmap.specs.IndexMap.{IndexMap, keys, values, index_of_by}
 use Rattle.aw_cell.specs.Names.{lowercase}
 use Rattle.aw_schema.specs.declared.definition.Def.{Def}
-use Rattle.aw_schema.specs.declared.fault.SchemaFault.{SchemaFault}
 use Rattle.aw_schema.specs.declared.fault.SchemaFault.TheVariants.{Repeat}
 use Rattle.aw_schema.specs.Definitions.{object_of, has_name}
 use Rattle.aw_schema.specs.Checking.{repeated_name}

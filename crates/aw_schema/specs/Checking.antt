@@ -1,5 +1,5 @@
 -- Which definitions a catalogue accepts: the refusals, in their order, and what an accepted definition leaves.
-use Rattle.std.specs.Prelude.{ℕ, ◌≡◌, ◌⊎◌, ◌++◌, Bool, not, List, [], ◌∷◌, length, Option, Some, None, Result, Ok, Err, find, slice_get, nat_le, nat_eq, if◌then◌else◌, IsTrue}
+use Rattle.std.specs.Prelude.{ℕ, ◌≡◌, ◌⊎◌, ◌++◌, not, List, [], ◌∷◌, length, Option, Some, None, Result, Ok, Err, find, slice_get, nat_le, nat_eq, if◌then◌else◌, IsTrue}
 use Rattle.std.specs.List.{filter_map, list_any}
 use Rattle.std.specs.Option.{option_map, option_or, option_and_then}
 use Rattle.aw_schema.specs.declared.definition.Def.{Def}

@@ -136,8 +136,12 @@ fn refuses_in_order(rt: HostRuntime) -> Result<(), Fail> {
 fn needs_send_and_sync<T: Send + Sync + Drop>(_: T) {}
 
 #[test]
-fn goes_to_another_thread(rt: HostRuntime) {
+fn goes_to_another_thread(rt: HostRuntime) -> Result<(), Fail> {
     needs_send_and_sync(Catalogue::new(rt.alloc()));
     needs_send_and_sync(relation(0, 0));
     needs_send_and_sync(SchemaFault::TooMany);
+    let name = Text::of(b"d").ok_or("a text")?;
+    let kind = DefKind::Dimension;
+    needs_send_and_sync(Def { name, kind });
+    Ok(())
 }
