@@ -1,3 +1,4 @@
 pub mod Composing
 pub mod Rising
 pub mod PatchLaws
+pub mod CallerLemmas

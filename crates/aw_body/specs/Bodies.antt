@@ -38,3 +38,11 @@ AreAlike (Rel one) (Rel other) = (one.slots ≡ other.slots) × (one.kind ≡ ot
 AreAlike (Set one) (Set other) = Unit {0}
 AreAlike (Var one) (Var other) = (one.slots ≡ other.slots) × (one.kind ≡ other.kind)
 AreAlike _ _ = ⊥
+
+-- a body of the form of a definition: of a relation it has cells that are slots, at keys of one slot
+abbrev pub IsBodyOf : DefKind → Body → Type 0
+IsBodyOf Dimension (Dim values) = Unit {0}
+IsBodyOf (Relation target base) (Rel contents) = (contents.slots ≡ 1) × (contents.kind ≡ Slot)
+IsBodyOf (Valueset dimension) (Set slots) = Unit {0}
+IsBodyOf (Variable kind dimensions) (Var contents) = (contents.slots ≡ length dimensions) × (contents.kind ≡ kind)
+IsBodyOf _ _ = ⊥

@@ -2,7 +2,7 @@ use crate::body::Body;
 use crate::patch::BodyPatch;
 
 /// What a commit changes of an object: its number, and the patch of its latest body
-/// (docs/SHARING.md, "Commits").
+/// (docs/SHARING.md, "Bodies and patches").
 #[derive(Drop)]
 pub struct Change {
     pub object: u16,

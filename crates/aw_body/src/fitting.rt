@@ -17,7 +17,7 @@ const SLOTS: usize = 65_536;
 /// the definition's form; new values don't lower the next slot; slots are distinct; of cells there is
 /// one at least, each at a key of the definition's number of slots above the one before it, NA or of
 /// the definition's kind, and no INTEGER is -2147483648. It takes no memory.
-/// See docs/SHARING.md, "Commits".
+/// See docs/SHARING.md, "Bodies and patches".
 pub fn fits(patch: &BodyPatch, def: &Def, latest: &Body) -> bool
     ensures fits { result ≡ spec.fits patch.now def.now.kind latest.now }
     ensures patch { IsTrue result → spec.IsPatch patch.now }
