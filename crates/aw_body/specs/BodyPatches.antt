@@ -6,7 +6,7 @@ use Rattle.std.specs.Cmp.Lexicographic.{pointwise}
 use Rattle.aw_cell.specs.declared.cell.Cell.{Cell}
 use Rattle.aw_cell.specs.declared.cell.Kind.{Kind}
 use Rattle.aw_dim.specs.SameValues.{same_values}
-use Rattle.aw_dim.specs.Values.{IsDimension}
+use Rattle.aw_dim.specs.Values as dimension
 use Rattle.aw_page.specs.Fitting.{is_of_kind}
 use Rattle.aw_var.specs.CellMap.{Cells}
 use Rattle.aw_var.specs.CellPatch as cells
@@ -25,6 +25,10 @@ applied (Rel contents) (CellPatch patch) = Rel (record contents { cells = cells.
 applied (Var contents) (CellPatch patch) = Var (record contents { cells = cells.overwritten contents.cells patch })
 applied body _ = body
 
+-- the newer values, or nothing where they are equal to the older ones
+abbrev pub some_values : dimension.Values → dimension.Values → Option BodyPatch
+some_values older newer = if same_values older newer then None else Some (Values newer)
+
 -- a patch of cells, or nothing where it has no key
 abbrev pub some_cells : Cells → Option BodyPatch
 some_cells [] = None
@@ -33,7 +37,7 @@ some_cells (pair ∷ pairs) = Some (CellPatch (pair ∷ pairs))
 -- What makes the newer body of the older one: the newer values or slots, or the cells that differ. It is nothing where the
 -- bodies are equal, and of two bodies of different forms.
 abbrev pub difference : Body → Body → Option BodyPatch
-difference (Dim older) (Dim newer) = if same_values older newer then None else Some (Values newer)
+difference (Dim older) (Dim newer) = some_values older newer
 difference (Set older) (Set newer) = if pointwise nat_eq older newer then None else Some (Slots newer)
 difference (Rel older) (Rel newer) = some_cells (cells.difference older.cells newer.cells)
 difference (Var older) (Var newer) = some_cells (cells.difference older.cells newer.cells)

@@ -16,8 +16,8 @@ use Rattle.aw_body.specs.Owners.{Owners, AreOwners, owner_of, is_own, taken, giv
 tied-same : (one other : ℕ) → eq_by_cmp nat_cmp one other ≡ (other == one)
 tied-same one other =
     both_ways (eq_by_cmp nat_cmp one other) (other == one)
-      (λ tied. eq-eqb other one (sym (nat_cmp-IsAntisymmetric one other ((Equal-is (nat_cmp one other)).0 tied))))
-      (λ same. (Equal-is (nat_cmp one other)).1 (subst (λ key. nat_cmp key other ≡ Equal) (eqb-true other one same) (tied_itself nat_cmp_total other)))
+    (λ tied. eq-eqb other one (sym (nat_cmp-IsAntisymmetric one other ((Equal-is (nat_cmp one other)).0 tied))))
+    (λ same. (Equal-is (nat_cmp one other)).1 (subst (λ key. nat_cmp key other ≡ Equal) (eqb-true other one same) (tied_itself nat_cmp_total other)))
 
 either : {A : Type 0} (t u : Bool) (x y : A) → cond u x (cond t x y) ≡ cond (t || u) x y
 either true true x y = refl

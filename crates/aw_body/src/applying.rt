@@ -7,8 +7,9 @@ ghost use Rattle.aw_body.specs.BodyPatches as spec;
 use crate::body::Body;
 use crate::merging::merged;
 use crate::patch::BodyPatch;
+use aw_dim::Dimension;
 use aw_lists::List;
-use aw_var::{Patch, Variable};
+use aw_var::{Patch, Variable, difference_tells_apart};
 use std::alloc::{AllocError, Global};
 
 /// What a patch makes of a body; a patch of another form leaves it. The keys of a patch of cells have
@@ -38,15 +39,11 @@ pub fn difference(
     newer: &Body,
 ) -> Result<Option<BodyPatch>, AllocError>
     requires { AreAlike older.now newer.now }
-    ensures { IfOk result (λ patch. patch ≡ spec.difference older.now newer.now) }
+    ensures patch { IfOk result (λ patch. patch ≡ spec.difference older.now newer.now) }
+    ensures none { IfOk result (λ patch. IsNone patch ↔ (older.now ≡ newer.now)) }
 {
     match (older, newer) {
-        (Body::Dim(older), Body::Dim(newer)) => {
-            if older == newer {
-                return Ok(None);
-            }
-            Ok(Some(BodyPatch::Values(newer.copied()?)))
-        }
+        (Body::Dim(older), Body::Dim(newer)) => changed_values(older, newer),
         (Body::Set(older), Body::Set(newer)) => {
             if older == newer {
                 return Ok(None);
@@ -55,11 +52,7 @@ pub fn difference(
             Ok(Some(BodyPatch::Slots(slots)))
         }
         (Body::Rel(older), Body::Rel(newer)) | (Body::Var(older), Body::Var(newer)) => {
-            let patch = newer.patch_since(older)?;
-            if patch.is_empty() {
-                return Ok(None);
-            }
-            Ok(Some(BodyPatch::Cells(patch)))
+            changed_cells(older, newer)
         }
         _ => Ok(None),
     }
@@ -88,6 +81,36 @@ pub fn compose(
             Ok(BodyPatch::Cells(List::from_slice(alloc, changes.as_slice())?))
         }
     }
+}
+
+/// The newer values as a patch, or `None` exactly where the dimensions are equal.
+fn changed_values(older: &Dimension, newer: &Dimension) -> Result<Option<BodyPatch>, AllocError>
+    ensures patch { IfOk result (λ patch. patch ≡ spec.some_values older.now newer.now) }
+    ensures none { IfOk result (λ patch. IsNone patch ↔ (older.now ≡ newer.now)) }
+{
+    if older == newer {
+        return Ok(None);
+    }
+    Ok(Some(BodyPatch::Values(newer.copied()?)))
+}
+
+/// The patch of the cells that differ, or `None` exactly where the variables are equal.
+fn changed_cells(older: &Variable, newer: &Variable) -> Result<Option<BodyPatch>, AllocError>
+    requires slots { older.now.slots ≡ newer.now.slots }
+    requires kind { older.now.kind ≡ newer.now.kind }
+    ensures patch { IfOk result (λ patch. patch ≡ spec.some_cells (cells.difference older.now.cells newer.now.cells)) }
+    ensures none { IfOk result (λ patch. IsNone patch ↔ (older.now ≡ newer.now)) }
+{
+    difference_tells_apart();
+    let (none_before, none_now) = (older.is_empty(), newer.is_empty());
+    if none_before && none_now {
+        return Ok(None);
+    }
+    let patch = newer.patch_since(older)?;
+    if patch.is_empty() {
+        return Ok(None);
+    }
+    Ok(Some(BodyPatch::Cells(patch)))
 }
 
 /// The cells after a patch.

@@ -6,6 +6,7 @@ mod applying;
 mod body;
 mod change;
 mod fitting;
+mod laws;
 mod merging;
 mod patch;
 
@@ -13,4 +14,5 @@ pub use applying::{apply, compose, difference};
 pub use body::Body;
 pub use change::{Change, Fresh, Seen};
 pub use fitting::fits;
+pub use laws::{composed_does_both, difference_gives_newer};
 pub use patch::BodyPatch;
