@@ -2,3 +2,4 @@ pub mod Composing
 pub mod Rising
 pub mod PatchLaws
 pub mod CallerLemmas
+pub mod DifferenceForm

@@ -14,8 +14,9 @@ use Rattle.aw_body.specs.declared.body.Body.TheVariants.{Dim, Rel, Set, Var}
 use Rattle.aw_body.specs.declared.patch.BodyPatch.{BodyPatch}
 use Rattle.aw_body.specs.declared.patch.BodyPatch.TheVariants.{Values, Slots, Cells as CellPatch}
 use Rattle.aw_body.specs.Bodies.{IsBody, AreAlike}
-use Rattle.aw_body.specs.BodyPatches.{applied, difference, composed, IsOfItsForm, some_cells}
+use Rattle.aw_body.specs.BodyPatches.{applied, difference, composed, AreChangesOf, IsOfItsForm, some_cells}
 use Rattle.aw_body.specs.Laws.{MakesNewer}
+use Rattle.aw_body.proofs.DifferenceForm.{difference-form}
 
 -- ---- what is composed does what both do
 
@@ -73,29 +74,31 @@ values-newer older newer = by (same_values older newer) refl
   where
     by : (same : Bool) → same_values older newer ≡ same → MatchOption (if same then None else Some (Values newer)) (Dim older ≡ Dim newer) (MakesNewer (Dim older) (Dim newer))
     by true is = ap Dim ((same_values-Decides older newer).0 is)
-    by false is = record { differ = λ same. false≢true (sym is ∙ (same_values-Decides older newer).1 (ap values_of same)); makes = refl; form = tt }
+    by false is = record { differ = λ same. false≢true (sym is ∙ (same_values-Decides older newer).1 (ap values_of same)); makes = refl; form = tt; fits = tt }
 
 slots-newer : (older newer : List ℕ) → MatchOption (difference (Set older) (Set newer)) (Set older ≡ Set newer) (MakesNewer (Set older) (Set newer))
 slots-newer older newer = by (pointwise nat_eq older newer) refl
   where
     by : (same : Bool) → pointwise nat_eq older newer ≡ same → MatchOption (if same then None else Some (Slots newer)) (Set older ≡ Set newer) (MakesNewer (Set older) (Set newer))
     by true is = ap Set ((bytes_decides older newer).0 is)
-    by false is = record { differ = λ same. false≢true (sym is ∙ (bytes_decides older newer).1 (ap slots_of same)); makes = refl; form = tt }
+    by false is = record { differ = λ same. false≢true (sym is ∙ (bytes_decides older newer).1 (ap slots_of same)); makes = refl; form = tt; fits = tt }
 
-rel-newer : (older newer : Contents) → cells.overwritten older.cells (cells.difference older.cells newer.cells) ≡ newer.cells → laws.TellsApart older.cells newer.cells (cells.difference older.cells newer.cells) → (older.slots ≡ newer.slots) × (older.kind ≡ newer.kind) → (patch : Cells) → cells.difference older.cells newer.cells ≡ patch → MatchOption (some_cells patch) (Rel older ≡ Rel newer) (MakesNewer (Rel older) (Rel newer))
-rel-newer older newer gives apart alike [] is = ap Rel (same-contents older newer alike (apart.empty.0 is))
-rel-newer older newer gives apart alike (change ∷ changes) is = record {
+rel-newer : (older newer : Contents) → AreChangesOf older (cells.difference older.cells newer.cells) → cells.overwritten older.cells (cells.difference older.cells newer.cells) ≡ newer.cells → laws.TellsApart older.cells newer.cells (cells.difference older.cells newer.cells) → (older.slots ≡ newer.slots) × (older.kind ≡ newer.kind) → (patch : Cells) → cells.difference older.cells newer.cells ≡ patch → MatchOption (some_cells patch) (Rel older ≡ Rel newer) (MakesNewer (Rel older) (Rel newer))
+rel-newer older newer form gives apart alike [] is = ap Rel (same-contents older newer alike (apart.empty.0 is))
+rel-newer older newer form gives apart alike (change ∷ changes) is = record {
   differ = λ same. some-change is (apart.empty.1 (ap cells_of same));
   makes = ap Rel (same-contents (record older { cells = cells.overwritten older.cells (change ∷ changes) }) newer alike (sym (ap (cells.overwritten older.cells) is) ∙ gives));
   form = subst laws.IsRising is apart.rising;
+  fits = subst (λ (patch : Cells). AreChangesOf older patch) is form;
 }
 
-var-newer : (older newer : Contents) → cells.overwritten older.cells (cells.difference older.cells newer.cells) ≡ newer.cells → laws.TellsApart older.cells newer.cells (cells.difference older.cells newer.cells) → (older.slots ≡ newer.slots) × (older.kind ≡ newer.kind) → (patch : Cells) → cells.difference older.cells newer.cells ≡ patch → MatchOption (some_cells patch) (Var older ≡ Var newer) (MakesNewer (Var older) (Var newer))
-var-newer older newer gives apart alike [] is = ap Var (same-contents older newer alike (apart.empty.0 is))
-var-newer older newer gives apart alike (change ∷ changes) is = record {
+var-newer : (older newer : Contents) → AreChangesOf older (cells.difference older.cells newer.cells) → cells.overwritten older.cells (cells.difference older.cells newer.cells) ≡ newer.cells → laws.TellsApart older.cells newer.cells (cells.difference older.cells newer.cells) → (older.slots ≡ newer.slots) × (older.kind ≡ newer.kind) → (patch : Cells) → cells.difference older.cells newer.cells ≡ patch → MatchOption (some_cells patch) (Var older ≡ Var newer) (MakesNewer (Var older) (Var newer))
+var-newer older newer form gives apart alike [] is = ap Var (same-contents older newer alike (apart.empty.0 is))
+var-newer older newer form gives apart alike (change ∷ changes) is = record {
   differ = λ same. some-change is (apart.empty.1 (ap cells_of same));
   makes = ap Var (same-contents (record older { cells = cells.overwritten older.cells (change ∷ changes) }) newer alike (sym (ap (cells.overwritten older.cells) is) ∙ gives));
   form = subst laws.IsRising is apart.rising;
+  fits = subst (λ (patch : Cells). AreChangesOf older patch) is form;
 }
 
 pub difference-gives-newer : laws.DifferenceGivesNewer → laws.DifferenceTellsApart → (older newer : Body) → IsBody older → IsBody newer → AreAlike older newer → MatchOption (difference older newer) (older ≡ newer) (MakesNewer older newer)
@@ -104,7 +107,7 @@ difference-gives-newer gives apart (Dim one) (Rel other) is newer_is alike = abs
 difference-gives-newer gives apart (Dim one) (Set other) is newer_is alike = absurd alike
 difference-gives-newer gives apart (Dim one) (Var other) is newer_is alike = absurd alike
 difference-gives-newer gives apart (Rel one) (Dim other) is newer_is alike = absurd alike
-difference-gives-newer gives apart (Rel one) (Rel other) is newer_is alike = rel-newer one other (gives one.cells other.cells is.map newer_is.map) (apart one.cells other.cells is.map newer_is.map) alike (cells.difference one.cells other.cells) refl
+difference-gives-newer gives apart (Rel one) (Rel other) is newer_is alike = rel-newer one other (difference-form one other is newer_is alike) (gives one.cells other.cells is.map newer_is.map) (apart one.cells other.cells is.map newer_is.map) alike (cells.difference one.cells other.cells) refl
 difference-gives-newer gives apart (Rel one) (Set other) is newer_is alike = absurd alike
 difference-gives-newer gives apart (Rel one) (Var other) is newer_is alike = absurd alike
 difference-gives-newer gives apart (Set one) (Dim other) is newer_is alike = absurd alike
@@ -114,4 +117,4 @@ difference-gives-newer gives apart (Set one) (Var other) is newer_is alike = abs
 difference-gives-newer gives apart (Var one) (Dim other) is newer_is alike = absurd alike
 difference-gives-newer gives apart (Var one) (Rel other) is newer_is alike = absurd alike
 difference-gives-newer gives apart (Var one) (Set other) is newer_is alike = absurd alike
-difference-gives-newer gives apart (Var one) (Var other) is newer_is alike = var-newer one other (gives one.cells other.cells is.map newer_is.map) (apart one.cells other.cells is.map newer_is.map) alike (cells.difference one.cells other.cells) refl
+difference-gives-newer gives apart (Var one) (Var other) is newer_is alike = var-newer one other (difference-form one other is newer_is alike) (gives one.cells other.cells is.map newer_is.map) (apart one.cells other.cells is.map newer_is.map) alike (cells.difference one.cells other.cells) refl
