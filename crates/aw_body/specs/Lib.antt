@@ -1,0 +1,9 @@
+pub mod Bodies
+pub mod BodyPatches
+pub mod Fitting
+pub mod Laws
+pub mod Generations
+pub mod GenerationLaws
+pub mod Owners
+pub mod OwnerLaws
+pub mod KeptBodies

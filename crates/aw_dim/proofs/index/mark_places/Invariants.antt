@@ -1,0 +1,6 @@
+use Rattle.std.proofs.Common.{◌≡◌, length}
+use Rattle.aw_dim.specs.inside.Index.{ArePlaced, SlotsFit}
+use Rattle.aw_dim.proofs.index.mark_places.Given as goal
+
+abbrev pub invariant-loop-place : goal.invariant-loop-place
+invariant-loop-place l = ArePlaced l.entries l.places l.place × (length l.places ≡ length l.initial.places)

@@ -1,0 +1,4 @@
+pub mod Definitions
+pub mod Checking
+pub mod RecordLength
+pub mod inside

@@ -1,0 +1,6 @@
+pub mod CellMap
+pub mod CellPatch
+pub mod Pages
+pub mod Variable
+pub mod Laws
+pub mod inside

@@ -1,0 +1,6 @@
+-- What private functions alone need.
+pub mod NumberedMap
+pub mod Sheets
+pub mod Unpacking
+pub mod Shared
+pub mod Walks

@@ -1,0 +1,13 @@
+//! Variables: finite maps from coordinates to cells, kept in pages that copies share; and the patches
+//! that make one of another.
+#![tactic(auto)]
+
+mod fault;
+mod laws;
+mod numbered;
+mod sheet;
+
+pub use fault::VarFault;
+pub use laws::{
+    composed_does_both, difference_gives_newer, difference_tells_apart, overwritten_is_map,
+};

@@ -1,0 +1,140 @@
+ghost use Rattle.std.specs.Prelude.{◌≡◌, ◌<◌, ◌↔◌, length, replicate, slice_get, slice_set, Some, IsTrue, IfSome, IfOk, IsNone, OnOk, OnErr};
+ghost use Rattle.std.specs.Arc.{arc_value};
+ghost use Rattle.std.specs.List.{list_all};
+ghost use Rattle.aw_cell.specs.declared.cell.Cell.TheVariants.{Na};
+ghost use Rattle.aw_page.specs.Fitting.{is_na, is_of_kind, IsPlain, IsTextOrNa};
+ghost use Rattle.aw_var.specs.inside.Sheets.{is_text_kind};
+ghost use Rattle.aw_var.specs.inside.Shared.{IsHeldBy};
+
+use aw_cell::{Cell, Kind};
+use aw_page::{Page, TextPage};
+use std::alloc::{AllocError, Global};
+use std::marker::Model;
+use std::sync::Arc;
+
+/// One page, which copies share until one of them changes it.
+#[derive(Drop)]
+enum Shared {
+    Plain(Arc<Page>),
+    Text(Arc<TextPage>),
+}
+
+/// The 64 cells of one page, all of kinds other than TEXT or all TEXT.
+#[derive(Drop)]
+pub struct Sheet {
+    page: Shared,
+}
+
+impl Model for Sheet {
+    ghost use Rattle.aw_var.specs.inside.Sheets.{SheetCells};
+
+    ghost Value = { SheetCells };
+
+    ghost use Rattle.aw_var.specs.inside.Shared.{shared_cells};
+
+    ghost view = { λ sheet. shared_cells sheet.page };
+}
+
+fn put_plain(page: &mut Arc<Page>, alloc: Global, at: u8, cell: Cell) -> Result<(), AllocError>
+    requires place { at < 64 }
+    requires plain { IsPlain cell }
+    ensures ok { OnOk result (arc_value page.new ≡ slice_set (arc_value page.old) at cell) }
+    ensures err { OnErr result (arc_value page.new ≡ arc_value page.old) }
+{
+    if let Some(page) = Arc::get_mut(page) {
+        page.put(at, cell);
+        return Ok(());
+    }
+    let mut changed = page.copied(alloc)?;
+    changed.put(at, cell);
+    *page = Arc::new(alloc, changed)?;
+    Ok(())
+}
+
+fn put_text(page: &mut Arc<TextPage>, alloc: Global, at: u8, cell: Cell) -> Result<(), AllocError>
+    requires place { at < 64 }
+    requires fitting { IsTextOrNa cell }
+    ensures ok { OnOk result (arc_value page.new ≡ slice_set (arc_value page.old) at cell) }
+    ensures err { OnErr result (arc_value page.new ≡ arc_value page.old) }
+{
+    if let Some(page) = Arc::get_mut(page) {
+        page.put(at, cell);
+        return Ok(());
+    }
+    let mut changed = page.copied(alloc)?;
+    changed.put(at, cell);
+    *page = Arc::new(alloc, changed)?;
+    Ok(())
+}
+
+impl Sheet {
+    /// A sheet for cells of a kind, of which every one is NA.
+    pub fn new(alloc: Global, kind: Kind) -> Result<Sheet, AllocError>
+        ensures { IfOk result (λ sheet. sheet ≡ (is_text_kind kind, replicate 64 Na)) }
+    {
+        let page = match kind {
+            Kind::Text => Shared::Text(Arc::new(alloc, TextPage::new())?),
+            _ => Shared::Plain(Arc::new(alloc, Page::new())?),
+        };
+        Ok(Sheet { page })
+    }
+
+    pub fn get(&self, at: u8) -> Cell
+        requires { at < 64 }
+        ensures cell { slice_get self.now.1 at ≡ Some result }
+        ensures size { length self.now.1 ≡ 64 }
+    {
+        match &self.page {
+            Shared::Plain(page) => page.get(at),
+            Shared::Text(page) => page.get(at),
+        }
+    }
+
+    /// Puts a cell of its kind in a place. Want of memory leaves the sheet as it was.
+    pub fn put(&mut self, alloc: Global, at: u8, cell: Cell) -> Result<(), AllocError>
+        requires place { at < 64 }
+        requires fitting { IsHeldBy self.old cell }
+        ensures ok { OnOk result (self.new ≡ (self.old.0, slice_set self.old.1 at cell)) }
+        ensures err { OnErr result (self.new ≡ self.old) }
+    {
+        match &mut self.page {
+            Shared::Plain(page) => put_plain(page, alloc, at, cell),
+            Shared::Text(page) => put_text(page, alloc, at, cell),
+        }
+    }
+
+    /// Whether every cell is NA.
+    pub fn is_empty(&self) -> bool
+        ensures { result ≡ list_all is_na self.now.1 }
+    {
+        match &self.page {
+            Shared::Plain(page) => page.is_empty(),
+            Shared::Text(page) => page.is_empty(),
+        }
+    }
+
+    /// The page itself, where its cells aren't TEXT.
+    pub fn plain(&self) -> Option<&Page>
+        ensures none { IsNone result ↔ IsTrue self.now.0 }
+        ensures cells { IfSome result (λ page. page.now ≡ self.now.1) }
+    {
+        match &self.page {
+            Shared::Plain(page) => Some(page),
+            Shared::Text(_) => None,
+        }
+    }
+}
+
+impl Clone for Sheet {
+    ghost use Rattle.std.specs.Prelude.{◌≡◌};
+
+    ghost is_clone = { λ sheet copy. copy ≡ sheet };
+
+    fn clone(&self) -> Result<Sheet, AllocError> {
+        let page = match &self.page {
+            Shared::Plain(page) => Shared::Plain(Arc::try_clone(page)?),
+            Shared::Text(page) => Shared::Text(Arc::try_clone(page)?),
+        };
+        Ok(Sheet { page })
+    }
+}
