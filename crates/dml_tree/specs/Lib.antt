@@ -1,0 +1,5 @@
+pub mod LineTokens
+pub mod Sorts
+pub mod Spelling
+pub mod Words
+pub mod inside

@@ -3,12 +3,17 @@
 
 mod definition;
 mod expr;
+mod line;
+mod next;
+mod numeral;
+mod quoted;
 mod statement;
 mod token;
 mod word;
 
 pub use definition::{Defined, Definition, Local, MapLine, Program, Remainder, Step};
 pub use expr::{Expr, Fix, Joint, Target};
+pub use line::tokens;
 pub use statement::{Kin, Limiting, Mode, Place, Range, Select, Statement};
 pub use token::{Lexeme, Sort, Symbol, Token, TokenFault};
 pub use word::Word;
