@@ -9,7 +9,8 @@ use aw_lists::List;
 use std::alloc::Global;
 
 fn blanks(bytes: &[u8]) -> usize
-    ensures { result ≡ prefix_len is_blank bytes.now }
+    ensures front { result ≡ prefix_len is_blank bytes.now }
+    ensures within { result ≤ length bytes.now }
 {
     bytes
         .iter()

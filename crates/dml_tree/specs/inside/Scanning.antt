@@ -1,9 +1,11 @@
 -- What the functions answer that look for one token.
-use Rattle.std.specs.Prelude.{ℕ, ℤ, pos, ◌≡◌, ◌≢◌, ◌+◌, ◌/◌, ◌≤◌, ◌<◌, ◌==◌, Bool, true, false, cond, List, [], ◌∷◌, ◌++◌, length, take, drop, map, min, nat_le, unsigned_abs, Result, Ok, Err}
+use Rattle.std.specs.Prelude.{ℕ, ℤ, pos, ◌≡◌, ◌≢◌, ◌+◌, ◌/◌, ◌≤◌, ◌<◌, ◌==◌, Bool, true, false, cond, List, [], ◌∷◌, ◌++◌, length, take, drop, map, min, nat_le, unsigned_abs, Option, Some, None, Result, Ok, Err}
 use Rattle.std.specs.List.{prefix_len}
 use Rattle.std.specs.Char.{is_ascii_digit}
 use Rattle.dml_tree.specs.Spelling.{escaped, space_for_tab}
 use Rattle.dml_tree.specs.LineTokens.{IsNext, AreBlanks, Stands, HasEnded, AreTokens, HasFault}
+use Rattle.aw_cell.specs.Names.{same_word}
+use Rattle.dml_tree.specs.declared.word.Word.{Word}
 use Rattle.dml_tree.specs.declared.token.Lexeme.{Lexeme}
 use Rattle.dml_tree.specs.declared.token.Lexeme.TheVariants as lexeme
 use Rattle.dml_tree.specs.declared.token.Token.{Token}
@@ -13,6 +15,13 @@ use Rattle.dml_tree.specs.declared.token.TokenFault.TheVariants.{Lexical, NoMemo
 -- no token is the first of these bytes
 abbrev pub NoneIsNext : List ℕ → Type 0
 NoneIsNext bytes = (what : Lexeme) (len : ℕ) → ¬ (IsNext bytes what len)
+
+-- ---- words
+
+-- the word behind the first spelling that is the same
+abbrev pub looked_up : List (List ℕ × Word) → List ℕ → Option Word
+looked_up [] written = None
+looked_up (entry ∷ table) written = cond (same_word written entry.0) (Some entry.1) (looked_up table written)
 
 -- ---- texts
 

@@ -1,0 +1,9 @@
+mod Forms
+mod Fronts
+mod LineWalk
+mod Named
+mod NumeralLength
+mod Numerals
+mod Quotes
+mod Symbols
+mod WordTable
