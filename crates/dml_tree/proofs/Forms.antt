@@ -32,7 +32,7 @@ digits_first (w ∷ ws) rest bytes some digits e = ap (begins_with is_ascii_digi
 pub size_first : (bytes : List ℕ) (count : ℕ) → SpellsSize bytes count → begins_with is_ascii_digit bytes ≡ true
 size_first bytes count s = digits_first s.whole (pointed s.decimals) bytes s.parts.some s.parts.whole_digits s.form
 
-quote_byte : (b : ℕ) → space_for_tab b ≡ 39 → (b == 39) ≡ true
+pub quote_byte : (b : ℕ) → space_for_tab b ≡ 39 → (b == 39) ≡ true
 quote_byte b e = by (b == 9) refl e
   where
   by : (tab : Bool) → (b == 9) ≡ tab → cond tab 32 b ≡ 39 → (b == 39) ≡ true
