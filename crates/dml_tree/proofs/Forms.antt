@@ -35,9 +35,9 @@ size_first bytes count s = digits_first s.whole (pointed s.decimals) bytes s.par
 pub quote_byte : (b : ℕ) → space_for_tab b ≡ 39 → (b == 39) ≡ true
 quote_byte b e = by (b == 9) refl e
   where
-  by : (tab : Bool) → (b == 9) ≡ tab → cond tab 32 b ≡ 39 → (b == 39) ≡ true
-  by true is e = absurd (omega arith)
-  by false is e = eq-eqb b 39 e
+    by : (tab : Bool) → (b == 9) ≡ tab → cond tab 32 b ≡ 39 → (b == 39) ≡ true
+    by true is e = absurd (omega arith)
+    by false is e = eq-eqb b 39 e
 
 pub quote_first : (bytes rest : List ℕ) → map space_for_tab bytes ≡ 39 ∷ rest → begins_with is_quote bytes ≡ true
 quote_first [] rest e = cc

@@ -19,9 +19,9 @@ module _ {X : Type 0} (p : X → Bool) where
   prefix_len-part [] (suc m) within = absurd (omega arith)
   prefix_len-part (x ∷ xs) (suc m) within = by (p x) refl (prefix_len-part xs m) within
     where
-    by : (b : Bool) → p x ≡ b → (m ≤ prefix_len p xs → list_all p (take m xs) ≡ true) → suc m ≤ cond b (1 + prefix_len p xs) 0 → list_all p (x ∷ take m xs) ≡ true
-    by true e rest within = rw e (rest (omega arith))
-    by false e rest within = absurd (omega arith)
+      by : (b : Bool) → p x ≡ b → (m ≤ prefix_len p xs → list_all p (take m xs) ≡ true) → suc m ≤ cond b (1 + prefix_len p xs) 0 → list_all p (x ∷ take m xs) ≡ true
+      by true e rest within = rw e (rest (omega arith))
+      by false e rest within = absurd (omega arith)
 
   pub prefix_len-behind : (xs ys : List X) → list_all p xs ≡ true → prefix_len p (xs ++ ys) ≡ length xs + prefix_len p ys
   prefix_len-behind [] ys each = sym (zero-add (prefix_len p ys))
@@ -33,9 +33,9 @@ module _ {X : Type 0} (p : X → Bool) where
 pub take-take : {X : Type 0} (xs : List X) (m n : ℕ) → m ≤ n → take m (take n xs) ≡ take m xs
 take-take [] m n le = ap (take m) (take-nothing n)
   where
-  take-nothing : {Y : Type 0} (k : ℕ) → ◌≡◌ {A = List Y} (take k []) []
-  take-nothing zero = refl
-  take-nothing (suc k) = refl
+    take-nothing : {Y : Type 0} (k : ℕ) → ◌≡◌ {A = List Y} (take k []) []
+    take-nothing zero = refl
+    take-nothing (suc k) = refl
 take-take (x ∷ xs) zero n le = refl
 take-take (x ∷ xs) (suc m) zero le = absurd (omega arith)
 take-take (x ∷ xs) (suc m) (suc n) le = ap (λ l. x ∷ l) (take-take xs m n (omega arith))

@@ -1,6 +1,8 @@
+mod Answered
 mod Forms
 mod Fronts
 mod LineWalk
+mod Once
 mod Named
 mod NumeralLength
 mod Numerals

@@ -74,9 +74,9 @@ none_found : {X : Type 0} (p : X → Bool) (xs : List X) (i : ℕ) → position_
 none_found p [] i e = refl
 none_found p (x ∷ xs) i e = by (p x) refl (none_found p xs (i + 1)) e
   where
-  by : (b : Bool) → p x ≡ b → (position_from p (i + 1) xs ≡ None → list_any p xs ≡ false) → cond b (Some i) (position_from p (i + 1) xs) ≡ None → (p x || list_any p xs) ≡ false
-  by true is rest e = cc
-  by false is rest e = rw is (rest e)
+    by : (b : Bool) → p x ≡ b → (position_from p (i + 1) xs ≡ None → list_any p xs ≡ false) → cond b (Some i) (position_from p (i + 1) xs) ≡ None → (p x || list_any p xs) ≡ false
+    by true is rest e = cc
+    by false is rest e = rw is (rest e)
 
 pub no_word : (bytes : List ℕ) → has_name_form bytes ≡ true → word_place bytes ≡ None → IsTrue (is_name bytes)
 unfolding word_place

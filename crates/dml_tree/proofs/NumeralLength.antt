@@ -35,7 +35,7 @@ covers_parts whole (c ∷ cs) rest bytes w d few e =
     let at : drop (whole_len bytes) bytes ≡ 46 ∷ behind = ap (λ n. drop n bytes) front ∙ ap (drop (length whole)) e ∙ drop-append_seam whole (46 ∷ behind) in
     let digits : prefix_len is_ascii_digit behind ≡ length (c ∷ cs) + prefix_len is_ascii_digit rest = prefix_len-behind is_ascii_digit (c ∷ cs) rest d in
     let size : fraction_len (drop (whole_len bytes) bytes) ≡ 1 + min (length (c ∷ cs) + prefix_len is_ascii_digit rest) 4 =
-        ap fraction_len at ∙ fraction_at behind (length (c ∷ cs) + prefix_len is_ascii_digit rest) (omega arith) digits in
+    ap fraction_len at ∙ fraction_at behind (length (c ∷ cs) + prefix_len is_ascii_digit rest) (omega arith) digits in
     let count : length (c ∷ cs) ≡ suc (length cs) = refl in
     omega arith
 
@@ -43,7 +43,7 @@ pub numeral_len-covers : (bytes : List ℕ) (n count : ℕ) → n ≤ length byt
 numeral_len-covers bytes n count within s =
     let size : n ≡ length s.whole + length (pointed s.decimals) = sym (length-take-le n bytes within) ∙ ap length s.form ∙ length-append s.whole (pointed s.decimals) in
     let all : bytes ≡ s.whole ++ (pointed s.decimals ++ drop n bytes) =
-        sym (take-append-drop n bytes) ∙ ap (λ l. l ++ drop n bytes) s.form ∙ append_assoc s.whole (pointed s.decimals) (drop n bytes) in
+    sym (take-append-drop n bytes) ∙ ap (λ l. l ++ drop n bytes) s.form ∙ append_assoc s.whole (pointed s.decimals) (drop n bytes) in
     let most = covers_parts s.whole s.decimals (drop n bytes) bytes s.parts.whole_digits s.parts.decimal_digits s.parts.few all in
     omega arith
 
@@ -76,9 +76,9 @@ fraction_parts : (rest : List ℕ) → FractionParts rest (fraction_len rest)
 fraction_parts [] = no_fraction []
 fraction_parts (b ∷ bs) = by (b == 46) refl
   where
-  by : (point : Bool) → (b == 46) ≡ point → FractionParts (b ∷ bs) (cond point (cond (prefix_len is_ascii_digit bs == 0) 0 (1 + min (prefix_len is_ascii_digit bs) 4)) 0)
-  by true e = let here : b ≡ 46 = eqb-true b 46 e in rw here (behind_point bs (prefix_len is_ascii_digit bs) refl)
-  by false e = no_fraction (b ∷ bs)
+    by : (point : Bool) → (b == 46) ≡ point → FractionParts (b ∷ bs) (cond point (cond (prefix_len is_ascii_digit bs == 0) 0 (1 + min (prefix_len is_ascii_digit bs) 4)) 0)
+    by true e = let here : b ≡ 46 = eqb-true b 46 e in rw here (behind_point bs (prefix_len is_ascii_digit bs) refl)
+    by false e = no_fraction (b ∷ bs)
 
 pub record NumeralParts (bytes : List ℕ) (len : ℕ) (has_point : Bool) : Type 0 where
   pub decimals : List ℕ
@@ -113,13 +113,15 @@ pub numeral_len-size : (bytes : List ℕ) → begins_with is_ascii_digit bytes �
 numeral_len-size bytes h =
     let parts = numeral_parts bytes in
     let some = whole_some bytes h in
-    let size = length-prefix_len is_ascii_digit bytes in
-    (ten_thousandths (take (whole_len bytes) bytes) parts.decimals, record {
-      whole = take (whole_len bytes) bytes;
-      decimals = parts.decimals;
-      form = parts.form;
-      parts = record { some = omega arith; whole_digits = parts.whole_digits; few = parts.few; decimal_digits = parts.digits; value = refl };
-    })
+    let size = length-prefix_len is_ascii_digit bytes in (
+      ten_thousandths (take (whole_len bytes) bytes) parts.decimals,
+      record {
+        whole = take (whole_len bytes) bytes;
+        decimals = parts.decimals;
+        form = parts.form;
+        parts = record { some = omega arith; whole_digits = parts.whole_digits; few = parts.few; decimal_digits = parts.digits; value = refl };
+      },
+    )
 
 pub numeral_len-within : (bytes : List ℕ) → (whole_len bytes ≤ length bytes) × (numeral_len bytes ≤ length bytes)
 unfolding numeral_len
@@ -129,14 +131,14 @@ numeral_len-within bytes =
     let left = length-drop (whole_len bytes) bytes in
     (most, omega arith)
   where
-  fraction_within : (rest : List ℕ) → fraction_len rest ≤ length rest
-  fraction_within [] = omega arith
-  fraction_within (b ∷ bs) = by (b == 46) (prefix_len is_ascii_digit bs == 0) (prefix_len-le-length is_ascii_digit bs)
-    where
-    by : (point none : Bool) → prefix_len is_ascii_digit bs ≤ length bs → cond point (cond none 0 (1 + min (prefix_len is_ascii_digit bs) 4)) 0 ≤ length (b ∷ bs)
-    by true true most = omega arith
-    by true false most = omega arith
-    by false none most = omega arith
+    fraction_within : (rest : List ℕ) → fraction_len rest ≤ length rest
+    fraction_within [] = omega arith
+    fraction_within (b ∷ bs) = by (b == 46) (prefix_len is_ascii_digit bs == 0) (prefix_len-le-length is_ascii_digit bs)
+      where
+        by : (point none : Bool) → prefix_len is_ascii_digit bs ≤ length bs → cond point (cond none 0 (1 + min (prefix_len is_ascii_digit bs) 4)) 0 ≤ length (b ∷ bs)
+        by true true most = omega arith
+        by true false most = omega arith
+        by false none most = omega arith
 
 -- a point among the bytes
 pub digits_alone : (whole decimals text : List ℕ) → are_digits whole ≡ true → text ≡ whole ++ pointed decimals → are_digits text ≡ not (has_decimals decimals)

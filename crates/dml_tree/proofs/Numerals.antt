@@ -81,7 +81,7 @@ numeral_is_next bytes len has_point units first e has read =
     let begins : begins_with is_ascii_digit (take len bytes) ≡ true = begins-take is_ascii_digit bytes len (omega arith) ∙ first in
     let plain = unsigned_numeral (take len bytes) units begins read.0 in
     let all : are_digits (take len bytes) ≡ not has_point =
-        digits_alone (take (whole_len bytes) bytes) parts.decimals (take len bytes) parts.whole_digits parts.form ∙ ap not (sym parts.whether) in
+    digits_alone (take (whole_len bytes) bytes) parts.decimals (take len bytes) parts.whole_digits parts.form ∙ ap not (sym parts.whether) in
     record {
       some = omega arith;
       within = omega arith;
@@ -101,7 +101,7 @@ no_numeral bytes len first e none what n next =
     let most : n ≤ numeral_len bytes = numeral_len-covers bytes n here.0 next.within here.1 in
     let size = numeral_len-size bytes first in
     let least : numeral_len bytes ≤ n = ⊎_elim (λ (shorter : n < numeral_len bytes). absurd (next.longest (numeral_len bytes) shorter within.1 (counted size.0 size.1)))
-          (λ (enough : numeral_len bytes ≤ n). enough) (cases_lt n (numeral_len bytes)) in
+    (λ (enough : numeral_len bytes ≤ n). enough) (cases_lt n (numeral_len bytes)) in
     let same : n ≡ len = omega arith in
     let read = digit_spelled what (take n bytes) begins next.spelled in
     none read.0 (subst (λ k. SpellsInRange (take k bytes) read.0) same read.1)

@@ -26,9 +26,9 @@ escaped-append : (xs ys : List ℕ) → escaped (xs ++ ys) ≡ escaped xs ++ esc
 escaped-append [] ys = refl
 escaped-append (x ∷ xs) ys = by (is_special x) (escaped-append xs ys)
   where
-  by : (b : Bool) → escaped (xs ++ ys) ≡ escaped xs ++ escaped ys → cond b (92 ∷ x ∷ escaped (xs ++ ys)) (x ∷ escaped (xs ++ ys)) ≡ cond b (92 ∷ x ∷ escaped xs) (x ∷ escaped xs) ++ escaped ys
-  by true rest = ap (λ l. 92 ∷ x ∷ l) rest
-  by false rest = ap (λ l. x ∷ l) rest
+    by : (b : Bool) → escaped (xs ++ ys) ≡ escaped xs ++ escaped ys → cond b (92 ∷ x ∷ escaped (xs ++ ys)) (x ∷ escaped (xs ++ ys)) ≡ cond b (92 ∷ x ∷ escaped xs) (x ∷ escaped xs) ++ escaped ys
+    by true rest = ap (λ l. 92 ∷ x ∷ l) rest
+    by false rest = ap (λ l. x ∷ l) rest
 
 not_special : (b : ℕ) → is_special b ≡ false → (n : ℕ) → is_special n ≡ true → b ≡ n → ⊥
 not_special b f n t e = let both : true ≡ false = sym t ∙ ap is_special (sym e) ∙ f in cc
@@ -46,23 +46,23 @@ is_behind : (read text behind rest : List ℕ) → escaped read ++ rest ≡ esca
 is_behind [] text behind rest e = record { more = text; all = refl; left = e }
 is_behind (b ∷ bs) [] behind rest e = absurd (by (is_special b) refl e)
   where
-  by : (p : Bool) → is_special b ≡ p → cond p (92 ∷ b ∷ escaped bs) (b ∷ escaped bs) ++ rest ≡ 39 ∷ behind → ⊥
-  by true is e = let first : ◌≡◌ {A = ℕ} 92 39 = cc in omega arith
-  by false is e = let first : b ≡ 39 = cc in not_special b is 39 refl first
+    by : (p : Bool) → is_special b ≡ p → cond p (92 ∷ b ∷ escaped bs) (b ∷ escaped bs) ++ rest ≡ 39 ∷ behind → ⊥
+    by true is e = let first : ◌≡◌ {A = ℕ} 92 39 = cc in omega arith
+    by false is e = let first : b ≡ 39 = cc in not_special b is 39 refl first
 is_behind (b ∷ bs) (c ∷ cs) behind rest e = by (is_special b) (is_special c) refl refl e (is_behind bs cs behind rest)
   where
-  by : (p q : Bool) → is_special b ≡ p → is_special c ≡ q → cond p (92 ∷ b ∷ escaped bs) (b ∷ escaped bs) ++ rest ≡ cond q (92 ∷ c ∷ escaped cs) (c ∷ escaped cs) ++ 39 ∷ behind
-      → (escaped bs ++ rest ≡ escaped cs ++ 39 ∷ behind → IsBehind bs cs behind rest) → IsBehind (b ∷ bs) (c ∷ cs) behind rest
-  by true true is it e then =
-      let first : b ≡ c = cc in
-      let others : escaped bs ++ rest ≡ escaped cs ++ 39 ∷ behind = cc in
-      same_letter b c bs cs behind rest first (then others)
-  by true false is it e then = let first : c ≡ 92 = cc in absurd (not_special c it 92 refl first)
-  by false true is it e then = let first : b ≡ 92 = cc in absurd (not_special b is 92 refl first)
-  by false false is it e then =
-      let first : b ≡ c = cc in
-      let others : escaped bs ++ rest ≡ escaped cs ++ 39 ∷ behind = cc in
-      same_letter b c bs cs behind rest first (then others)
+    by : (p q : Bool) → is_special b ≡ p → is_special c ≡ q → cond p (92 ∷ b ∷ escaped bs) (b ∷ escaped bs) ++ rest ≡ cond q (92 ∷ c ∷ escaped cs) (c ∷ escaped cs) ++ 39 ∷ behind
+        → (escaped bs ++ rest ≡ escaped cs ++ 39 ∷ behind → IsBehind bs cs behind rest) → IsBehind (b ∷ bs) (c ∷ cs) behind rest
+    by true true is it e then =
+        let first : b ≡ c = cc in
+        let others : escaped bs ++ rest ≡ escaped cs ++ 39 ∷ behind = cc in
+        same_letter b c bs cs behind rest first (then others)
+    by true false is it e then = let first : c ≡ 92 = cc in absurd (not_special c it 92 refl first)
+    by false true is it e then = let first : b ≡ 92 = cc in absurd (not_special b is 92 refl first)
+    by false false is it e then =
+        let first : b ≡ c = cc in
+        let others : escaped bs ++ rest ≡ escaped cs ++ 39 ∷ behind = cc in
+        same_letter b c bs cs behind rest first (then others)
 
 -- a letter doesn't begin with a quote
 no_letter_here : (b : ℕ) (text more behind : List ℕ) → escaped (b ∷ text) ++ more ≡ 39 ∷ behind → ⊥
@@ -124,9 +124,9 @@ starts_quote (b ∷ bs) behind e = let first : space_for_tab b ≡ 39 = cc in qu
 none_ends : (bytes read text behind : List ℕ) (at : ℕ) → HasNoLetter (drop at bytes) → begins_with is_quote (drop at bytes) ≡ false → IsBehind read text behind (spaced (drop at bytes)) → ⊥
 none_ends bytes read text behind at no_letter other r = by r.more r.left
   where
-  by : (more : List ℕ) → spaced (drop at bytes) ≡ escaped more ++ 39 ∷ behind → ⊥
-  by [] e = let both : true ≡ false = sym (starts_quote (drop at bytes) behind e) ∙ other in cc
-  by (b ∷ bs) e = no_letter b bs (39 ∷ behind) e
+    by : (more : List ℕ) → spaced (drop at bytes) ≡ escaped more ++ 39 ∷ behind → ⊥
+    by [] e = let both : true ≡ false = sym (starts_quote (drop at bytes) behind e) ∙ other in cc
+    by (b ∷ bs) e = no_letter b bs (39 ∷ behind) e
 
 pub unclosed : (bytes read : List ℕ) (at : ℕ) → begins_with is_quote bytes ≡ true → HasRead bytes at read → HasNoLetter (drop at bytes) → begins_with is_quote (drop at bytes) ≡ false → NoneIsNext bytes
 unclosed bytes read at first h no_letter other what n next =
@@ -139,14 +139,14 @@ text_size text h = leb-true (length text) 64 (and_parts (nat_le (length text) 64
 too_long : (bytes read text behind : List ℕ) (at byte len : ℕ) → 64 ≤ length read → is_text text ≡ true → IsLetter (drop at bytes) byte len → IsBehind read text behind (spaced (drop at bytes)) → ⊥
 too_long bytes read text behind at byte len full fits letter r = by r.more r.left r.all
   where
-  by : (more : List ℕ) → spaced (drop at bytes) ≡ escaped more ++ 39 ∷ behind → text ≡ read ++ more → ⊥
-  by [] e all = no_letter_here byte [] (spaced (drop len (drop at bytes))) behind
-      (ap (λ l. l ++ spaced (drop len (drop at bytes))) (sym letter.written) ∙ sym (in_two (drop at bytes) len) ∙ e)
-  by (b ∷ bs) e all =
-      let size = text_size text fits in
-      let sum : length text ≡ length read + length (b ∷ bs) = ap length all ∙ length-append read (b ∷ bs) in
-      let one : length (b ∷ bs) ≡ suc (length bs) = refl in
-      omega arith
+    by : (more : List ℕ) → spaced (drop at bytes) ≡ escaped more ++ 39 ∷ behind → text ≡ read ++ more → ⊥
+    by [] e all = no_letter_here byte [] (spaced (drop len (drop at bytes))) behind
+        (ap (λ l. l ++ spaced (drop len (drop at bytes))) (sym letter.written) ∙ sym (in_two (drop at bytes) len) ∙ e)
+    by (b ∷ bs) e all =
+        let size = text_size text fits in
+        let sum : length text ≡ length read + length (b ∷ bs) = ap length all ∙ length-append read (b ∷ bs) in
+        let one : length (b ∷ bs) ≡ suc (length bs) = refl in
+        omega arith
 
 pub overlong : (bytes read : List ℕ) (at byte len : ℕ) → begins_with is_quote bytes ≡ true → HasRead bytes at read → 64 ≤ length read → IsLetter (drop at bytes) byte len → NoneIsNext bytes
 overlong bytes read at byte len first h full letter what n next =
@@ -156,12 +156,12 @@ overlong bytes read at byte len first h full letter what n next =
 ends_here : (bytes read text behind : List ℕ) (at : ℕ) → begins_with is_quote (drop at bytes) ≡ true → IsBehind read text behind (spaced (drop at bytes)) → text ≡ read
 ends_here bytes read text behind at quote r = by (drop at bytes) quote r.more r.left r.all
   where
-  by : (rest : List ℕ) → begins_with is_quote rest ≡ true → (more : List ℕ) → spaced rest ≡ escaped more ++ 39 ∷ behind → text ≡ read ++ more → text ≡ read
-  by rest quote [] e all = all ∙ append-nil read
-  by [] quote (m ∷ ms) e all = cc
-  by (b ∷ bs) quote (m ∷ ms) e all =
-      let first : space_for_tab b ≡ 39 = ap space_for_tab (eqb-true b 39 quote) in
-      absurd (no_letter_here m ms (39 ∷ behind) (spaced bs) (sym e ∙ ap (λ x. x ∷ spaced bs) first))
+    by : (rest : List ℕ) → begins_with is_quote rest ≡ true → (more : List ℕ) → spaced rest ≡ escaped more ++ 39 ∷ behind → text ≡ read ++ more → text ≡ read
+    by rest quote [] e all = all ∙ append-nil read
+    by [] quote (m ∷ ms) e all = cc
+    by (b ∷ bs) quote (m ∷ ms) e all =
+        let first : space_for_tab b ≡ 39 = ap space_for_tab (eqb-true b 39 quote) in
+        absurd (no_letter_here m ms (39 ∷ behind) (spaced bs) (sym e ∙ ap (λ x. x ∷ spaced bs) first))
 
 pub no_text : (bytes read : List ℕ) (at : ℕ) → begins_with is_quote bytes ≡ true → HasRead bytes at read → begins_with is_quote (drop at bytes) ≡ true → (IsTrue (is_text read) → ⊥) → NoneIsNext bytes
 no_text bytes read at first h quote unfit what n next =
@@ -234,3 +234,15 @@ pub record LettersRead (bytes : List ℕ) (at len : ℕ) (room : List ℕ) : Typ
   pub read : HasRead bytes at (take len room)
   pub few : len ≤ 64
   pub size : length room ≡ 64
+
+-- bytes spell one text at most
+pub same_text : (one other bytes : List ℕ) → SpellsText one bytes → SpellsText other bytes → one ≡ other
+same_text one other bytes s t =
+    let both : 39 ∷ escaped one ++ 39 ∷ [] ≡ 39 ∷ escaped other ++ 39 ∷ [] = sym s.quoted ∙ t.quoted in
+    let inner : escaped one ++ 39 ∷ [] ≡ escaped other ++ 39 ∷ [] = cc in
+    let r = is_behind one other [] (39 ∷ []) inner in
+    by r.more r.left r.all
+  where
+    by : (more : List ℕ) → 39 ∷ [] ≡ escaped more ++ 39 ∷ [] → other ≡ one ++ more → one ≡ other
+    by [] e all = sym (all ∙ append-nil one)
+    by (b ∷ bs) e all = absurd (no_letter_here b bs (39 ∷ []) [] (sym e))

@@ -22,9 +22,9 @@ found_at written (entry ∷ table) i h =
     let parts = and_parts (nat_eq (word_number entry.1) i) (are_numbered (i + 1) table) h in
     by (same_word written entry.0) (eqb-true (word_number entry.1) i parts.0) (found_at written table (i + 1) parts.1)
   where
-  by : (b : Bool) → word_number entry.1 ≡ i → option_map word_number (looked_up table written) ≡ position_from (same_word written) (i + 1) (map (λ e. e.0) table) → option_map word_number (cond b (Some entry.1) (looked_up table written)) ≡ cond b (Some i) (position_from (same_word written) (i + 1) (map (λ e. e.0) table))
-  by true e rest = ap Some e
-  by false e rest = rest
+    by : (b : Bool) → word_number entry.1 ≡ i → option_map word_number (looked_up table written) ≡ position_from (same_word written) (i + 1) (map (λ e. e.0) table) → option_map word_number (cond b (Some entry.1) (looked_up table written)) ≡ cond b (Some i) (position_from (same_word written) (i + 1) (map (λ e. e.0) table))
+    by true e rest = ap Some e
+    by false e rest = rest
 
 abbrev pub words : Table
 words = map (λ k. (k.0.now, k.1)) WORDS

@@ -1,3 +1,4 @@
+pub mod Laws
 pub mod LineTokens
 pub mod Sorts
 pub mod Spelling

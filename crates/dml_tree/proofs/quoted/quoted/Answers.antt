@@ -36,10 +36,11 @@ returns-then-at-bytes c =
     let no_letter = rest_no_letter c.args.bytes.now c.loop-letter.at c.in_default.ensures in
     let unclosed_here = unclosed c.args.bytes.now (take c.loop-letter.len c.loop-letter.text) c.loop-letter.at c.requires before.read no_letter in
     elim c.then-at-bytes.branch [
-        then-at-bytes-via-then-at-bytes w ↦ unclosed_here (no_quote_behind c.args.bytes.now c.loop-letter.at (omega arith))
+      | then-at-bytes-via-then-at-bytes w ↦ unclosed_here (no_quote_behind c.args.bytes.now c.loop-letter.at (omega arith))
       | then-at-bytes-via-else-at-bytes+then-bytes-at-ne39 w ↦
           let within = before.read.within in
-          unclosed_here (no_quote_at c.args.bytes.now c.loop-letter.at (omega arith) (ne_eqb _ _ (omega arith))) ]
+          unclosed_here (no_quote_at c.args.bytes.now c.loop-letter.at (omega arith) (ne_eqb _ _ (omega arith)))
+    ]
 
 pub returns-in_err-text : goal.returns-in_err-text
 returns-in_err-text c =
