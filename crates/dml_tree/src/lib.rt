@@ -9,6 +9,8 @@ mod next;
 mod numeral;
 mod quoted;
 mod statement;
+#[cfg(test)]
+mod tests;
 mod token;
 mod word;
 
