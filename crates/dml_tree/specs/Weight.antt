@@ -1,7 +1,7 @@
 -- How much an expression or statement weighs.
 use Rattle.std.specs.Prelude.{ℕ, ◌+◌, List, [], ◌∷◌}
-use Rattle.dml_tree.specs.declared.expr.Expr.{Expr}
-use Rattle.dml_tree.specs.declared.expr.Expr.TheVariants as expr
+use Rattle.dml_tree.specs.declared.expr.Expr.{Expr, fold-Expr}
+use Rattle.dml_tree.specs.declared.expr.Expr.TheOpen.{Expr-F}
 use Rattle.dml_tree.specs.declared.statement.Select.{Select}
 use Rattle.dml_tree.specs.declared.statement.Select.TheVariants as select
 use Rattle.dml_tree.specs.declared.statement.Statement.{Statement}
@@ -9,16 +9,20 @@ use Rattle.dml_tree.specs.declared.statement.Statement.TheVariants as statement
 
 -- over what a name counts, which is one but for a formula's name
 module _ (of_name : List ℕ → ℕ) where
+  -- what one level of an expression counts, beside what its operands count
+  abbrev pub level_weight : Expr-F ℕ → ℕ
+  level_weight (Expr-F.Object target) = of_name target.name
+  level_weight (Expr-F.Grouped inner) = inner
+  level_weight (Expr-F.Not operand) = 1 + operand
+  level_weight (Expr-F.Negative operand) = 1 + operand
+  level_weight (Expr-F.Abs operand) = 1 + operand
+  level_weight (Expr-F.Joined joint left right) = 1 + left + right
+  level_weight (Expr-F.If condition first second) = 1 + condition + first + second
+  level_weight _ = 1
+
   -- a literal, a name with its fixes, an operator, a function and an IF count one each; parentheses count nothing
   abbrev pub weight : Expr → ℕ
-  weight (expr.Object target) = of_name target.name
-  weight (expr.Grouped inner) = weight inner
-  weight (expr.Not operand) = 1 + weight operand
-  weight (expr.Negative operand) = 1 + weight operand
-  weight (expr.Abs operand) = 1 + weight operand
-  weight (expr.Joined joint left right) = 1 + weight left + weight right
-  weight (expr.If condition yes other) = 1 + weight condition + weight yes + weight other
-  weight _ = 1
+  weight = fold-Expr ℕ level_weight
 
   abbrev pub weight_of_all : List Expr → ℕ
   weight_of_all [] = 0

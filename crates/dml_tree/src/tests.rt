@@ -1,7 +1,6 @@
 use crate::*;
 use aw_cell::{Kind, Operator, Order, Text};
 use aw_lists::List;
-use sqlite_items::{Boxed, Items};
 use std::alloc::Global;
 use std::fmt::Write;
 use std::test::Fail;
@@ -136,21 +135,11 @@ fn goes_to_another_thread(rt: HostRuntime) -> Result<(), Fail> {
     needs_send_and_sync(tokens(rt.alloc(), b"SHOW v", 0).ok().ok_or("tokens")?);
     needs_send_and_sync(Sort::Word(Word::If));
     needs_send_and_sync(TokenFault::NoMemory);
-    let target = Target {
+    needs_send_and_sync(Target {
         name,
         fixes: List::new(rt.alloc()),
-    };
-    let not = Expr::Not(Boxed::new(rt.alloc(), Expr::Object(target))?);
-    needs_send_and_sync(Joint::Compare(Order::Eq));
-    needs_send_and_sync(Statement::Limit(name, Limiting::To, Select::Top(3, not)));
-    needs_send_and_sync(Definition {
-        name,
-        what: Defined::Program(Program {
-            arguments: List::new(rt.alloc()),
-            variables: List::new(rt.alloc()),
-            steps: Items::new(rt.alloc()),
-        }),
     });
+    needs_send_and_sync(Joint::Compare(Order::Eq));
     needs_send_and_sync(Local {
         line: 2,
         name,
