@@ -47,7 +47,7 @@ pub enum Joint {
     NaFill,
 }
 
-/// An expression as it is written, without its parentheses (docs/LANGUAGE.md, "Expressions").
+/// An expression as it is written (docs/LANGUAGE.md, "Expressions").
 #[derive(Debug, Drop)]
 pub enum Expr {
     /// NA
@@ -62,6 +62,8 @@ pub enum Expr {
     Truth(bool),
     /// A name, with the values at which it is taken.
     Object(Target),
+    /// An expression in parentheses.
+    Grouped(Boxed<Expr>),
     /// NOT
     Not(Boxed<Expr>),
     /// `-` in front of an operand.

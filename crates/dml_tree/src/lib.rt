@@ -3,12 +3,21 @@
 
 mod definition;
 mod expr;
+mod laws;
+mod line;
+mod next;
+mod numeral;
+mod quoted;
 mod statement;
+#[cfg(test)]
+mod tests;
 mod token;
 mod word;
 
 pub use definition::{Defined, Definition, Local, MapLine, Program, Remainder, Step};
 pub use expr::{Expr, Fix, Joint, Target};
+pub use laws::{lines_are_read_one_way, tokens_stand_in_order, words_are_reserved};
+pub use line::tokens;
 pub use statement::{Kin, Limiting, Mode, Place, Range, Select, Statement};
 pub use token::{Lexeme, Sort, Symbol, Token, TokenFault};
 pub use word::Word;

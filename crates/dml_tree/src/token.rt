@@ -1,5 +1,9 @@
+ghost use Rattle.std.specs.Prelude.{◌≡◌};
+ghost use Rattle.dml_tree.specs.Sorts.{sort_of, count_of, same_sort};
+
 use crate::word::Word;
 use aw_cell::{Number, Text};
+use std::alloc::AllocError;
 
 /// A token that is one byte (docs/LANGUAGE.md, "Tokens").
 #[derive(Clone, Copy, Debug, PartialEq, Eq)]
@@ -91,4 +95,63 @@ pub enum TokenFault {
     },
     /// There was no memory for the list.
     NoMemory,
+}
+
+impl From<AllocError> for TokenFault {
+    ghost use Rattle.std.specs.Prelude.{◌≡◌};
+    ghost use Rattle.dml_tree.specs.declared.token.TokenFault.TheVariants.{NoMemory};
+
+    ghost from_gives = { λ _ e. e ≡ NoMemory };
+
+    fn from(_: AllocError) -> TokenFault {
+        TokenFault::NoMemory
+    }
+}
+
+impl Lexeme {
+    /// Its sort.
+    pub fn sort(&self) -> Sort
+        ensures { result ≡ sort_of self.now }
+    {
+        match self {
+            Lexeme::Name(_) => Sort::Name,
+            Lexeme::Word(word) => Sort::Word(*word),
+            Lexeme::Integer(_) => Sort::Integer,
+            Lexeme::Whole(_) => Sort::Whole,
+            Lexeme::Decimal(_) => Sort::Decimal,
+            Lexeme::Text(_) => Sort::Text,
+            Lexeme::Symbol(symbol) => Sort::Symbol(*symbol),
+            Lexeme::End => Sort::End,
+        }
+    }
+
+    /// How many a numeral without a point counts, and `None` for any other token.
+    pub fn count(&self) -> Option<u64>
+        ensures { result ≡ count_of self.now }
+    {
+        match self {
+            Lexeme::Integer(whole) => Some(whole.unsigned_abs() as u64),
+            Lexeme::Whole(number) => Some(number.units().unsigned_abs() / 10_000),
+            _ => None,
+        }
+    }
+}
+
+impl Sort {
+    /// Whether two sorts are the same.
+    pub fn is(&self, other: Sort) -> bool
+        ensures { result ≡ same_sort self.now other }
+    {
+        match (self, &other) {
+            (Sort::Word(one), Sort::Word(other)) => one == other,
+            (Sort::Symbol(one), Sort::Symbol(other)) => one == other,
+            (Sort::Name, Sort::Name)
+            | (Sort::Integer, Sort::Integer)
+            | (Sort::Whole, Sort::Whole)
+            | (Sort::Decimal, Sort::Decimal)
+            | (Sort::Text, Sort::Text)
+            | (Sort::End, Sort::End) => true,
+            _ => false,
+        }
+    }
 }

@@ -1,3 +1,9 @@
+ghost use Rattle.std.specs.Prelude.{◌≡◌, map, option_map};
+ghost use Rattle.dml_tree.specs.Words.{word_place, word_number};
+ghost use Rattle.dml_tree.specs.inside.Scanning.{looked_up};
+
+use aw_cell::is_same_word;
+
 /// A reserved word, which stands for itself and names no object (docs/LANGUAGE.md, "Names and words").
 #[derive(Clone, Copy, Debug, PartialEq, Eq)]
 pub enum Word {
@@ -203,106 +209,145 @@ pub enum Word {
     Yes,
 }
 
-/// Each reserved word with how it is spelled, in the order of their spellings.
-const WORDS: [(Word, &[u8]); 100] = [
-    (Word::Abs, b"ABS"),
-    (Word::Acquire, b"ACQUIRE"),
-    (Word::Across, b"ACROSS"),
-    (Word::Add, b"ADD"),
-    (Word::After, b"AFTER"),
-    (Word::AggMap, b"AGGMAP"),
-    (Word::Aggregate, b"AGGREGATE"),
-    (Word::All, b"ALL"),
-    (Word::Allocate, b"ALLOCATE"),
-    (Word::Ancestors, b"ANCESTORS"),
-    (Word::And, b"AND"),
-    (Word::Argument, b"ARGUMENT"),
-    (Word::Attach, b"ATTACH"),
-    (Word::Average, b"AVERAGE"),
-    (Word::Aw, b"AW"),
-    (Word::BasedOn, b"BASEDON"),
-    (Word::Basis, b"BASIS"),
-    (Word::Before, b"BEFORE"),
-    (Word::Boolean, b"BOOLEAN"),
-    (Word::Bottom, b"BOTTOM"),
-    (Word::Call, b"CALL"),
-    (Word::Children, b"CHILDREN"),
-    (Word::Commit, b"COMMIT"),
-    (Word::Complement, b"COMPLEMENT"),
-    (Word::Composite, b"COMPOSITE"),
-    (Word::Consistent, b"CONSISTENT"),
-    (Word::Copy, b"COPY"),
-    (Word::Count, b"COUNT"),
-    (Word::CumSum, b"CUMSUM"),
-    (Word::Define, b"DEFINE"),
-    (Word::Delete, b"DELETE"),
-    (Word::Descendants, b"DESCENDANTS"),
-    (Word::Detach, b"DETACH"),
-    (Word::Dimension, b"DIMENSION"),
-    (Word::Do, b"DO"),
-    (Word::DoEnd, b"DOEND"),
-    (Word::Else, b"ELSE"),
-    (Word::End, b"END"),
-    (Word::Eq, b"EQ"),
-    (Word::Even, b"EVEN"),
-    (Word::False, b"FALSE"),
-    (Word::First, b"FIRST"),
-    (Word::For, b"FOR"),
-    (Word::Formula, b"FORMULA"),
-    (Word::Ge, b"GE"),
-    (Word::Gt, b"GT"),
-    (Word::HCopy, b"HCOPY"),
-    (Word::HEven, b"HEVEN"),
-    (Word::If, b"IF"),
-    (Word::Integer, b"INTEGER"),
-    (Word::Keep, b"KEEP"),
-    (Word::Lag, b"LAG"),
-    (Word::Last, b"LAST"),
-    (Word::Le, b"LE"),
-    (Word::Lead, b"LEAD"),
-    (Word::Limit, b"LIMIT"),
-    (Word::Lt, b"LT"),
-    (Word::Maintain, b"MAINTAIN"),
-    (Word::Max, b"MAX"),
-    (Word::Min, b"MIN"),
-    (Word::Model, b"MODEL"),
-    (Word::Move, b"MOVE"),
-    (Word::MovingTotal, b"MOVINGTOTAL"),
-    (Word::Multi, b"MULTI"),
-    (Word::Na, b"NA"),
-    (Word::NaFill, b"NAFILL"),
-    (Word::Ne, b"NE"),
-    (Word::No, b"NO"),
-    (Word::Not, b"NOT"),
-    (Word::Number, b"NUMBER"),
-    (Word::Operator, b"OPERATOR"),
-    (Word::Or, b"OR"),
-    (Word::Parents, b"PARENTS"),
-    (Word::Program, b"PROGRAM"),
-    (Word::Proportional, b"PROPORTIONAL"),
-    (Word::Relation, b"RELATION"),
-    (Word::Release, b"RELEASE"),
-    (Word::RemOperator, b"REMOPERATOR"),
-    (Word::Remove, b"REMOVE"),
-    (Word::Rename, b"RENAME"),
-    (Word::Report, b"REPORT"),
-    (Word::Resync, b"RESYNC"),
-    (Word::Return, b"RETURN"),
-    (Word::Revert, b"REVERT"),
-    (Word::Ro, b"RO"),
-    (Word::Show, b"SHOW"),
-    (Word::Sum, b"SUM"),
-    (Word::Target, b"TARGET"),
-    (Word::Text, b"TEXT"),
-    (Word::Then, b"THEN"),
-    (Word::To, b"TO"),
-    (Word::Top, b"TOP"),
-    (Word::True, b"TRUE"),
-    (Word::Update, b"UPDATE"),
-    (Word::Using, b"USING"),
-    (Word::ValueSet, b"VALUESET"),
-    (Word::Variable, b"VARIABLE"),
-    (Word::While, b"WHILE"),
-    (Word::With, b"WITH"),
-    (Word::Yes, b"YES"),
+/// Each reserved word behind how it is spelled, in the order of the spellings.
+const WORDS: [(&[u8], Word); 100] = [
+    (b"ABS", Word::Abs),
+    (b"ACQUIRE", Word::Acquire),
+    (b"ACROSS", Word::Across),
+    (b"ADD", Word::Add),
+    (b"AFTER", Word::After),
+    (b"AGGMAP", Word::AggMap),
+    (b"AGGREGATE", Word::Aggregate),
+    (b"ALL", Word::All),
+    (b"ALLOCATE", Word::Allocate),
+    (b"ANCESTORS", Word::Ancestors),
+    (b"AND", Word::And),
+    (b"ARGUMENT", Word::Argument),
+    (b"ATTACH", Word::Attach),
+    (b"AVERAGE", Word::Average),
+    (b"AW", Word::Aw),
+    (b"BASEDON", Word::BasedOn),
+    (b"BASIS", Word::Basis),
+    (b"BEFORE", Word::Before),
+    (b"BOOLEAN", Word::Boolean),
+    (b"BOTTOM", Word::Bottom),
+    (b"CALL", Word::Call),
+    (b"CHILDREN", Word::Children),
+    (b"COMMIT", Word::Commit),
+    (b"COMPLEMENT", Word::Complement),
+    (b"COMPOSITE", Word::Composite),
+    (b"CONSISTENT", Word::Consistent),
+    (b"COPY", Word::Copy),
+    (b"COUNT", Word::Count),
+    (b"CUMSUM", Word::CumSum),
+    (b"DEFINE", Word::Define),
+    (b"DELETE", Word::Delete),
+    (b"DESCENDANTS", Word::Descendants),
+    (b"DETACH", Word::Detach),
+    (b"DIMENSION", Word::Dimension),
+    (b"DO", Word::Do),
+    (b"DOEND", Word::DoEnd),
+    (b"ELSE", Word::Else),
+    (b"END", Word::End),
+    (b"EQ", Word::Eq),
+    (b"EVEN", Word::Even),
+    (b"FALSE", Word::False),
+    (b"FIRST", Word::First),
+    (b"FOR", Word::For),
+    (b"FORMULA", Word::Formula),
+    (b"GE", Word::Ge),
+    (b"GT", Word::Gt),
+    (b"HCOPY", Word::HCopy),
+    (b"HEVEN", Word::HEven),
+    (b"IF", Word::If),
+    (b"INTEGER", Word::Integer),
+    (b"KEEP", Word::Keep),
+    (b"LAG", Word::Lag),
+    (b"LAST", Word::Last),
+    (b"LE", Word::Le),
+    (b"LEAD", Word::Lead),
+    (b"LIMIT", Word::Limit),
+    (b"LT", Word::Lt),
+    (b"MAINTAIN", Word::Maintain),
+    (b"MAX", Word::Max),
+    (b"MIN", Word::Min),
+    (b"MODEL", Word::Model),
+    (b"MOVE", Word::Move),
+    (b"MOVINGTOTAL", Word::MovingTotal),
+    (b"MULTI", Word::Multi),
+    (b"NA", Word::Na),
+    (b"NAFILL", Word::NaFill),
+    (b"NE", Word::Ne),
+    (b"NO", Word::No),
+    (b"NOT", Word::Not),
+    (b"NUMBER", Word::Number),
+    (b"OPERATOR", Word::Operator),
+    (b"OR", Word::Or),
+    (b"PARENTS", Word::Parents),
+    (b"PROGRAM", Word::Program),
+    (b"PROPORTIONAL", Word::Proportional),
+    (b"RELATION", Word::Relation),
+    (b"RELEASE", Word::Release),
+    (b"REMOPERATOR", Word::RemOperator),
+    (b"REMOVE", Word::Remove),
+    (b"RENAME", Word::Rename),
+    (b"REPORT", Word::Report),
+    (b"RESYNC", Word::Resync),
+    (b"RETURN", Word::Return),
+    (b"REVERT", Word::Revert),
+    (b"RO", Word::Ro),
+    (b"SHOW", Word::Show),
+    (b"SUM", Word::Sum),
+    (b"TARGET", Word::Target),
+    (b"TEXT", Word::Text),
+    (b"THEN", Word::Then),
+    (b"TO", Word::To),
+    (b"TOP", Word::Top),
+    (b"TRUE", Word::True),
+    (b"UPDATE", Word::Update),
+    (b"USING", Word::Using),
+    (b"VALUESET", Word::ValueSet),
+    (b"VARIABLE", Word::Variable),
+    (b"WHILE", Word::While),
+    (b"WITH", Word::With),
+    (b"YES", Word::Yes),
 ];
+
+fn look_up(mut table: &[(&[u8], Word)], written: &[u8]) -> Option<Word>
+    ensures { result ≡ looked_up (map (λ k. (k.0.now, k.1)) table.entry.now) written.now }
+{
+    while let [entry, rest @ ..] = table {
+        if is_same_word(written, entry.0) {
+            return Some(entry.1);
+        }
+        table = rest;
+    }
+    None
+}
+
+impl Word {
+    /// The reserved word that is written, in small or capital letters, or `None` where these bytes are
+    /// no reserved word.
+    pub(crate) fn of(written: &[u8]) -> Option<Word>
+        ensures { option_map word_number result ≡ word_place written.now }
+    {
+        look_up(&WORDS, written)
+    }
+}
+
+#[cfg(test)]
+mod tests {
+    use super::*;
+    use std::test::Fail;
+
+    #[test]
+    fn knows_each_word_in_any_case(rt: HostRuntime) -> Result<(), Fail> {
+        for (spelling, word) in WORDS {
+            let small = spelling.to_ascii_lowercase(rt.alloc())?;
+            assert_eq!(rt; Word::of(spelling), Some(word));
+            assert_eq!(rt; Word::of(small.as_slice()), Some(word));
+        }
+        assert_eq!(rt; Word::of(b"IFX"), None);
+        Ok(())
+    }
+}
