@@ -4,7 +4,6 @@
 
 mod fault;
 mod laws;
-mod numbered;
 mod sheet;
 
 pub use fault::VarFault;
