@@ -1,1 +1,4 @@
 pub mod FiniteMaps
+pub mod Numbers
+pub mod Sheets
+pub mod Puts

@@ -4,6 +4,7 @@
 
 mod fault;
 mod laws;
+mod numbered;
 mod sheet;
 
 pub use fault::VarFault;

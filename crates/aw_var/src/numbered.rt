@@ -1,0 +1,142 @@
+ghost use Rattle.std.specs.Prelude.{◌≡◌, ◌<◌, ◌≢◌, ◌↔◌, ◌^◌, ◌/◌, [], IsTrue, IsNone, IfSome, IfOk, OnOk, OnErr, unwrap_or, slice_index_or};
+ghost use Rattle.aw_page.specs.Fitting.{is_of_kind};
+ghost use Rattle.aw_cell.specs.declared.cell.Cell.TheVariants.{Na};
+ghost use Rattle.std.specs.BTreeMap.{IsUnchanged};
+ghost use Rattle.aw_var.specs.inside.NumberedMap.{cell_of, set_of, difference_of};
+ghost use Rattle.aw_var.specs.inside.Sheets.{PutsCell, number_pages, AreSheets};
+
+use aw_cell::{Cell, Kind};
+use std::alloc::{AllocError, Global};
+use std::collections::BTreeMap;
+use std::marker::Model;
+
+use crate::sheet::Sheet;
+
+/// A finite map from packed keys to cells of one kind that aren't NA, in sheets of 64 by `number / 64`.
+#[derive(Drop)]
+pub struct Numbered {
+    kind: Kind,
+    sheets: BTreeMap<u128, Sheet>,
+    alloc: Global,
+}
+
+impl Model for Numbered {
+    ghost use Rattle.aw_var.specs.inside.NumberedMap.{NumberedMap};
+
+    ghost Value = { NumberedMap };
+
+    ghost use Rattle.aw_var.specs.inside.Sheets.{all_numbered, AreSheets};
+
+    ghost view = { λ n. record { kind = n.kind; cells = all_numbered n.sheets.entries } };
+
+    ghost invariant = { λ n. AreSheets n.kind n.sheets.entries };
+}
+
+/// Takes the cell at a place of a page away.
+fn take_cell(
+    sheets: &mut BTreeMap<u128, Sheet>,
+    alloc: Global,
+    kind: Kind,
+    page: u128,
+    at: u8,
+) -> Result<(), AllocError>
+    requires place { at < 64 }
+    requires sheets { AreSheets kind sheets.old.entries }
+    ensures ok { OnOk result (PutsCell kind sheets.old.entries sheets.new.entries page at Na) }
+    ensures err { OnErr result (IsUnchanged sheets.old sheets.new) }
+{
+    let Some(sheet) = sheets.get_mut(&page) else {
+        return Ok(());
+    };
+    sheet.put(alloc, at, Cell::Na)?;
+    if sheet.is_empty() {
+        sheets.remove(&page);
+    }
+    Ok(())
+}
+
+/// Puts a cell that isn't NA in a place of a page, on a new sheet where the page has none.
+fn put_cell(
+    sheets: &mut BTreeMap<u128, Sheet>,
+    alloc: Global,
+    kind: Kind,
+    page: u128,
+    at: u8,
+    cell: Cell,
+) -> Result<(), AllocError>
+    requires place { at < 64 }
+    requires present { cell ≢ Na }
+    requires fitting { IsTrue (is_of_kind kind cell) }
+    requires sheets { AreSheets kind sheets.old.entries }
+    ensures ok { OnOk result (PutsCell kind sheets.old.entries sheets.new.entries page at cell) }
+    ensures err { OnErr result (IsUnchanged sheets.old sheets.new) }
+{
+    if let Some(sheet) = sheets.get_mut(&page) {
+        return sheet.put(alloc, at, cell);
+    }
+    let mut sheet = Sheet::new(alloc, kind)?;
+    sheet.put(alloc, at, cell)?;
+    sheets.insert(page, sheet)?;
+    Ok(())
+}
+
+impl Numbered {
+    /// A map without cells.
+    pub fn new(alloc: Global, kind: Kind) -> Numbered
+        ensures { result ≡ record { kind = kind; cells = [] } }
+    {
+        Numbered {
+            kind,
+            sheets: BTreeMap::new(alloc),
+            alloc,
+        }
+    }
+
+    pub fn kind(&self) -> Kind
+        ensures { result ≡ self.now.kind }
+    {
+        self.kind
+    }
+
+    /// The cell at a number.
+    pub fn get(&self, number: u128) -> Cell
+        ensures { result ≡ cell_of self.now.cells number }
+    {
+        match self.sheets.get(&(number / 64)) {
+            Some(sheet) => sheet.get((number % 64) as u8),
+            None => Cell::Na,
+        }
+    }
+
+    /// Sets the cell at a number. Want of memory leaves all as it was.
+    pub fn put(&mut self, number: u128, cell: Cell) -> Result<(), AllocError>
+        requires { IsTrue (is_of_kind self.old.kind cell) }
+        ensures ok { OnOk result (self.new ≡ record self.old { cells = set_of self.old.cells number cell }) }
+        ensures err { OnErr result (self.new ≡ self.old) }
+    {
+        let (page, at) = (number / 64, (number % 64) as u8);
+        if cell == Cell::Na {
+            take_cell(&mut self.sheets, self.alloc, self.kind, page, at)
+        } else {
+            put_cell(&mut self.sheets, self.alloc, self.kind, page, at, cell)
+        }
+    }
+
+    /// An equal map, which shares its sheets.
+    pub fn copied(&self) -> Result<Numbered, AllocError>
+        ensures { IfOk result (λ copy. copy ≡ self.now) }
+    {
+        Ok(Numbered {
+            kind: self.kind,
+            sheets: self.sheets.clone()?,
+            alloc: self.alloc,
+        })
+    }
+
+    /// Whether it has no cell.
+    pub fn is_empty(&self) -> bool
+        ensures { IsTrue result ↔ (self.now.cells ≡ []) }
+    {
+        self.sheets.is_empty()
+    }
+}
