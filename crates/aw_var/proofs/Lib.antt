@@ -2,3 +2,4 @@ pub mod FiniteMaps
 pub mod Numbers
 pub mod Sheets
 pub mod Puts
+pub mod Unpacking

@@ -6,8 +6,10 @@ mod fault;
 mod laws;
 mod numbered;
 mod sheet;
+mod variable;
 
 pub use fault::VarFault;
 pub use laws::{
     composed_does_both, difference_gives_newer, difference_tells_apart, overwritten_is_map,
 };
+pub use variable::{Patch, Variable};

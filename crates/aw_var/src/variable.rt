@@ -1,0 +1,111 @@
+ghost use Rattle.std.specs.Prelude.{◌≡◌, ◌≤◌, ◌<◌, ◌↔◌, [], length, IsTrue, IsNone, IfSome, IfOk, OnOk, OnErr};
+ghost use Rattle.aw_lists.specs.Coord.{packed, AreSlots};
+ghost use Rattle.aw_page.specs.Fitting.{is_of_kind};
+ghost use Rattle.aw_var.specs.CellMap.{cell_at, set_at};
+ghost use Rattle.aw_var.specs.CellPatch.{difference};
+ghost use Rattle.aw_var.specs.Pages.{page_count, HasNoPage, ArePageCells};
+ghost use Rattle.aw_var.specs.Variable.{IsVariable};
+
+use aw_cell::{Cell, Kind};
+use aw_lists::{Coord, List};
+use std::alloc::{AllocError, Global};
+use std::marker::Model;
+
+use crate::numbered::Numbered;
+
+/// Which cells a variable changes: each key with its new cell, or NA where the cell is taken away; the
+/// keys rise (docs/SHARING.md, "Patches").
+pub type Patch = List<(Coord, Cell)>;
+
+
+/// The cells of a variable or a relation: a finite map from coordinates of one length to cells of one
+/// kind that aren't NA (docs/LANGUAGE.md, "Variables"). It keeps its allocator.
+#[derive(Drop)]
+pub struct Variable {
+    slots: u8,
+    cells: Numbered,
+}
+
+impl Model for Variable {
+    ghost use Rattle.aw_var.specs.Variable.{Contents};
+
+    ghost Value = { Contents };
+
+    ghost use Rattle.aw_var.specs.inside.Unpacking.{with_coords, AreNumbersOf};
+
+    ghost view = { λ v. record { slots = v.slots; kind = v.cells.kind; cells = with_coords v.slots v.cells.cells } };
+
+    ghost invariant = { λ v. AreNumbersOf v.slots v.cells.cells };
+}
+
+/// The packed number of a key.
+fn number_of(at: &Coord) -> u128
+    ensures value { result ≡ packed at.now }
+    ensures slots { AreSlots at.now }
+{
+    keep_range(at.slots(), at.pack())
+}
+
+fn keep_range(slots: &[u16], number: u128) -> u128
+    ensures same { result ≡ number }
+    ensures slots { AreSlots slots.now }
+{
+    let _ = slots.len();
+    number
+}
+
+impl Variable {
+    /// A variable of which every cell is NA, with keys of 0 to 6 slots. It takes no memory.
+    pub fn new(alloc: Global, slots: u8, kind: Kind) -> Variable
+        requires { slots ≤ 6 }
+        ensures { result ≡ record { slots = slots; kind = kind; cells = [] } }
+    {
+        Variable {
+            slots,
+            cells: Numbered::new(alloc, kind),
+        }
+    }
+
+    /// How many slots its keys have, 0 to 6.
+    pub fn slots(&self) -> u8
+        ensures { result ≡ self.now.slots }
+    {
+        self.slots
+    }
+
+    /// The kind of its cells.
+    pub fn kind(&self) -> Kind
+        ensures { result ≡ self.now.kind }
+    {
+        self.cells.kind()
+    }
+
+    /// Its cell at a key of its number of slots, NA where none was set. It takes no memory.
+    pub fn get(&self, at: &Coord) -> Cell
+        requires { length at.now ≡ self.now.slots }
+        ensures { result ≡ cell_at self.now.cells at.now }
+    {
+        self.cells.get(number_of(at))
+    }
+
+    /// Sets the cell at a key, on any number of pages; NA takes it away. Want of memory leaves all as it
+    /// was.
+    pub fn put(&mut self, at: &Coord, cell: Cell) -> Result<(), AllocError>
+        requires slots { length at.now ≡ self.old.slots }
+        requires kind { IsTrue (is_of_kind self.old.kind cell) }
+        ensures ok { OnOk result (self.new ≡ record self.old { cells = set_at self.old.cells at.now cell }) }
+        ensures err { OnErr result (self.new ≡ self.old) }
+    {
+        self.cells.put(number_of(at), cell)
+    }
+
+    /// An equal variable.
+    pub fn copied(&self) -> Result<Variable, AllocError>
+        ensures { IfOk result (λ copy. copy ≡ self.now) }
+    {
+        Ok(Variable {
+            slots: self.slots,
+            cells: self.cells.copied()?,
+        })
+    }
+}
