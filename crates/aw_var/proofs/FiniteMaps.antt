@@ -43,7 +43,7 @@ less_of Less p = refl
 less_of Equal p = cc
 less_of Greater p = cc
 
-turned : {A : Type 0} (b : Bool) (x y : A) → cond (not b) x y ≡ cond b y x
+pub turned : {A : Type 0} (b : Bool) (x y : A) → cond (not b) x y ≡ cond b y x
 turned true x y = refl
 turned false x y = refl
 

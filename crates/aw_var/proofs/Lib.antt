@@ -3,3 +3,5 @@ pub mod Numbers
 pub mod Sheets
 pub mod Puts
 pub mod Unpacking
+pub mod PageCounts
+pub mod Blank

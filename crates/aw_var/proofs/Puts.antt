@@ -23,7 +23,8 @@ use Rattle.aw_var.specs.inside.NumberedMap.{NumberedMap, cell_of, set_of}
 use Rattle.aw_var.specs.inside.Sheets.{SheetCells, Sheets, all_numbered, is_text_kind, IsSheet, AreSheets, sheet_at, blank, unless_blank, sheet_with, PutsCell}
 use Rattle.aw_var.proofs.FiniteMaps.{both_true, and_true, equal_of, same_map, cell-set, IsMapBy-set}
 use Rattle.aw_var.proofs.Numbers.{at_same}
-use Rattle.aw_var.proofs.Sheets.{cell_on, cell_of-all, IsMapBy-all}
+use Rattle.aw_var.specs.inside.Differences.{cell_on}
+use Rattle.aw_var.proofs.Sheets.{cell_of-all, IsMapBy-all}
 
 pub na_of : (c : Cell) → is_na c ≡ true → c ≡ Na
 na_of Na h = refl
@@ -187,13 +188,13 @@ held-on kind old page sheet cell h is fits =
     subst (λ b. MatchBool b (IsTextOrNa cell) (IsPlain cell)) (sym text) (held kind cell fits)
 
 -- a cell that isn't NA leaves no list blank
-used-set : (cells : List Cell) (place : ℕ) (cell : Cell) → place < length cells → is_na cell ≡ false → list_all is_na (slice_set cells place cell) ≡ false
+pub used-set : (cells : List Cell) (place : ℕ) (cell : Cell) → place < length cells → is_na cell ≡ false → list_all is_na (slice_set cells place cell) ≡ false
 used-set [] place cell within used = absurd (omega arith)
 used-set (c ∷ cs) zero cell within used = ap (λ b. b && list_all is_na cs) used
 used-set (c ∷ cs) (suc place) cell within used =
     ap (λ b. is_na c && b) (used-set cs place cell (omega arith) used) ∙ elim (is_na c) as (λ b. (b && false) ≡ false) [ true ↦ refl | false ↦ refl ]
 
-present : (cell : Cell) → (cell ≡ Na → ⊥) → is_na cell ≡ false
+pub present : (cell : Cell) → (cell ≡ Na → ⊥) → is_na cell ≡ false
 present Na some = absurd (some refl)
 present (Num a) some = refl
 present (Int a) some = refl
@@ -206,11 +207,11 @@ pub record Writes (old new : Sheets) (page : ℕ) (sheet : SheetCells) : Type 0 
   pub ordered : IsStrictlySortedBy nat_cmp (keys_of new)
   pub sheets : (other : ℕ) → sheet_at new other ≡ cond (is_at (nat_cmp page) other) (Some sheet) (sheet_at old other)
 
-with-is : (kind : Kind) (old : Sheets) (page place : ℕ) (cell : Cell) (sheet : SheetCells) → Some sheet ≡ sheet_at old page → sheet_with kind old page place cell ≡ (sheet.0, slice_set sheet.1 place cell)
+pub with-is : (kind : Kind) (old : Sheets) (page place : ℕ) (cell : Cell) (sheet : SheetCells) → Some sheet ≡ sheet_at old page → sheet_with kind old page place cell ≡ (sheet.0, slice_set sheet.1 place cell)
 with-is kind old page place cell sheet is =
     ap (λ (s : Option SheetCells). let one = unwrap_or s (blank kind) in let both : SheetCells = (one.0, slice_set one.1 place cell) in both) (sym is)
 
-with-none : (kind : Kind) (old : Sheets) (page place : ℕ) (cell : Cell) → None ≡ sheet_at old page → sheet_with kind old page place cell ≡ (is_text_kind kind, slice_set (replicate 64 Na) place cell)
+pub with-none : (kind : Kind) (old : Sheets) (page place : ℕ) (cell : Cell) → None ≡ sheet_at old page → sheet_with kind old page place cell ≡ (is_text_kind kind, slice_set (replicate 64 Na) place cell)
 with-none kind old page place cell is =
     ap (λ (s : Option SheetCells). let one = unwrap_or s (blank kind) in let both : SheetCells = (one.0, slice_set one.1 place cell) in both) (sym is)
 

@@ -18,6 +18,7 @@ use Rattle.aw_page.specs.Fitting.{is_na, is_of_kind}
 use Rattle.aw_var.specs.CellMap.{IsMapBy, cell_by}
 use Rattle.aw_var.specs.inside.NumberedMap.{cell_of}
 use Rattle.aw_var.specs.inside.Sheets.{SheetCells, Sheets, numbered, all_numbered, IsSheet, AreSheets, sheet_at}
+use Rattle.aw_var.specs.inside.Differences.{cell_on}
 use Rattle.aw_var.proofs.FiniteMaps.{both_true, and_true, kept, either, unwrap_or-kept, absent, equal_of}
 use Rattle.aw_var.proofs.Numbers.{at_same, at_less, at_more, lt_true, to_le, list_all-append, from_on, up_to, find-append, below-from, find-below, is_sorted-append, from_on-earlier}
 
@@ -163,11 +164,6 @@ find-all kind q (e ∷ es) sorted each =
       | Greater ↦ λ h. ap (λ r. either r (found_on (sheet_at es (q / 64)) (q % 64)))
           (find-numbered q (64 * e.0) (q - 64 * e.0) e.1.1 (omega arith) ∙ ap kept (get_or-eq_default e.1.1 Na {n = q - 64 * e.0} (omega arith)))
     ] (ranked (q / 64) e.0 (nat_cmp (q / 64) e.0) refl)
-
--- the cell on a sheet
-abbrev pub cell_on : Option SheetCells → ℕ → Cell
-cell_on None place = Na
-cell_on (Some sheet) place = get_or sheet.1 place Na
 
 unwrap_or-found_on : (sheet : Option SheetCells) (place : ℕ) → unwrap_or (found_on sheet place) Na ≡ cell_on sheet place
 unwrap_or-found_on None place = refl

@@ -1,5 +1,5 @@
 -- Coordinates in place of their packed numbers: what is found and what each change makes of a map stays the same.
-use Rattle.std.proofs.Common.{◌≡◌, ℕ, zero, suc, ◌+◌, ◌-◌, ◌*◌, ◌/◌, ◌%◌, ◌^◌, ◌<◌, ◌≤◌, Bool, true, false, cond, not, ◌&&◌, ◌==◌, List, [], ◌∷◌, map, length, get_or, Option, Some, None, unwrap_or, refl, sym, ap, subst, ◌∙◌, arith, IsTrue, Ordering, Less, Equal, Greater, Result, Ok, Err, OnOk, OnErr}
+use Rattle.std.proofs.Common.{◌≡◌, ℕ, zero, suc, ◌+◌, ◌-◌, ◌*◌, ◌/◌, ◌%◌, ◌^◌, ◌<◌, ◌≤◌, Bool, true, false, cond, not, ◌&&◌, ◌||◌, ◌==◌, List, [], ◌∷◌, map, length, get_or, Option, Some, None, unwrap_or, refl, sym, ap, subst, ◌∙◌, arith, IsTrue, Ordering, Less, Equal, Greater, Result, Ok, Err, OnOk, OnErr}
 use Rattle.std.proofs.Math.Nat.{pow-suc, mod-lt, div-lt_iff_lt-mul}
 use Rattle.std.proofs.lemmas.Nat.{div-add-mod'}
 use Rattle.std.specs.List.{list_all, list_any, filter, All}
@@ -21,6 +21,8 @@ use Rattle.std.specs.declared.alloc.AllocError.{AllocError}
 use Rattle.aw_cell.specs.declared.cell.Kind.{Kind}
 use Rattle.aw_var.specs.Variable.{Contents}
 use Rattle.aw_var.specs.inside.NumberedMap.{NumberedMap, cell_of, set_of, difference_of}
+use Rattle.aw_var.specs.inside.Sheets.{number_pages}
+use Rattle.aw_var.specs.Pages.{page_of, page_count}
 use Rattle.aw_var.specs.inside.Unpacking.{unpacked, with_coords, AreNumbersOf}
 use Rattle.aw_var.proofs.FiniteMaps.{both_true, and_true}
 
@@ -207,3 +209,27 @@ contents-after slots key cell old new now (Ok u) each size numbers ok is =
        let here : contents slots old.kind (set_of old.cells (packed key) cell) ≡ with_cell (contents slots old.kind old.cells) key cell = λ i. record { slots = slots; kind = old.kind; cells = e i } in here)
     ∙ ap (λ (c : Contents). with_cell c key cell) is
 contents-after slots key cell old new now (Err e) each size numbers ok is = tt
+
+-- the keys are on the pages of their numbers
+any-coords : (slots page : ℕ) (cells : List (ℕ × Cell)) → below slots cells ≡ true → list_any (λ other. page_of other.0 == page) (with_coords slots cells) ≡ list_any (λ other. other.0 / 64 == page) cells
+any-coords slots page [] all = refl
+any-coords slots page (e ∷ es) all =
+    let parts = both_true (nat_lt e.0 (65536 ^ slots)) (below slots es) all in
+    let under : e.0 < 65536 ^ slots = (Decides-ltb e.0 (65536 ^ slots)).0 parts.0 in
+    (λ i. (packed-unpacked slots e.0 under i / 64 == page) || any-coords slots page es parts.1 i)
+
+pub pages-coords : (slots : ℕ) (cells : List (ℕ × Cell)) → below slots cells ≡ true → page_count (with_coords slots cells) ≡ number_pages cells
+pages-coords slots [] all = refl
+pages-coords slots (e ∷ es) all =
+    let parts = both_true (nat_lt e.0 (65536 ^ slots)) (below slots es) all in
+    let under : e.0 < 65536 ^ slots = (Decides-ltb e.0 (65536 ^ slots)).0 parts.0 in
+    ap (λ n. cond (list_any (λ (other : List ℕ × Cell). page_of other.0 == n / 64) (with_coords slots es)) 0 1 + page_count (with_coords slots es)) (packed-unpacked slots e.0 under)
+    ∙ (λ i. cond (any-coords slots (e.0 / 64) es parts.1 i) 0 1 + pages-coords slots es parts.1 i)
+
+-- the pages that the cells of a variable would be on
+pub pages-key : (slots : ℕ) (key : List ℕ) (cell : Cell) (old : NumberedMap) (now : Contents) → AreSlots key → length key ≡ slots → AreNumbersOf slots old.cells → contents slots old.kind old.cells ≡ now →
+    number_pages (set_of old.cells (packed key) cell) ≡ page_count (set_at now.cells key cell)
+pages-key slots key cell old now each size numbers is =
+    sym (pages-coords slots (set_of old.cells (packed key) cell) (AreNumbersOf-set slots key cell old.cells each size numbers).below)
+    ∙ ap page_count (set-key slots key cell old.cells each size numbers)
+    ∙ ap (λ (c : Contents). page_count (set_at c.cells key cell)) is

@@ -7,6 +7,7 @@ mod laws;
 mod numbered;
 mod sheet;
 mod variable;
+mod walk;
 
 pub use fault::VarFault;
 pub use laws::{

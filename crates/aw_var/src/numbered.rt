@@ -139,4 +139,28 @@ impl Numbered {
     {
         self.sheets.is_empty()
     }
+
+    /// Whether the cells would be on more than so many pages if one were set.
+    pub fn needs_more(&self, most: usize, number: u128, cell: &Cell) -> bool
+        requires { IsTrue (is_of_kind self.now.kind cell.now) }
+        ensures { IsTrue result ↔ (most < number_pages (set_of self.now.cells number cell.now)) }
+    {
+        self.sheets.len() >= most && self.pages_with(number, cell) > most
+    }
+
+    /// How many pages the cells would be on if one were set.
+    fn pages_with(&self, number: u128, cell: &Cell) -> usize
+        requires { IsTrue (is_of_kind self.now.kind cell.now) }
+        ensures pages { result ≡ number_pages (set_of self.now.cells number cell.now) }
+    {
+        let count = self.sheets.len();
+        match self.sheets.get(&(number / 64)) {
+            Some(sheet) if *cell == Cell::Na && sheet.is_blank_without((number % 64) as u8) => {
+                count - 1
+            }
+            Some(_) => count,
+            None if *cell == Cell::Na => count,
+            None => count + 1,
+        }
+    }
 }

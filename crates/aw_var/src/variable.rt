@@ -11,12 +11,16 @@ use aw_lists::{Coord, List};
 use std::alloc::{AllocError, Global};
 use std::marker::Model;
 
+use crate::fault::VarFault;
 use crate::numbered::Numbered;
 
 /// Which cells a variable changes: each key with its new cell, or NA where the cell is taken away; the
 /// keys rise (docs/SHARING.md, "Patches").
 pub type Patch = List<(Coord, Cell)>;
 
+
+/// The most pages that the cells of a variable lie on where they are set one by one.
+const MOST_PAGES: usize = 65_536;
 
 /// The cells of a variable or a relation: a finite map from coordinates of one length to cells of one
 /// kind that aren't NA (docs/LANGUAGE.md, "Variables"). It keeps its allocator.
@@ -86,6 +90,33 @@ impl Variable {
         ensures { result ≡ cell_at self.now.cells at.now }
     {
         self.cells.get(number_of(at))
+    }
+
+    /// Sets the cell at a key; NA takes it away. `Full` where the cells would then lie on more than
+    /// 65,536 pages, which are the keys' packed numbers divided by 64. After an error all is as it was.
+    pub fn set(&mut self, at: &Coord, cell: Cell) -> Result<(), VarFault>
+        requires slots { length at.now ≡ self.old.slots }
+        requires kind { IsTrue (is_of_kind self.old.kind cell) }
+        ensures ok { OnOk result (self.new ≡ record self.old { cells = set_at self.old.cells at.now cell }) }
+        ensures full { (result ≡ Err VarFault.Full) ↔ (MOST_PAGES < page_count (set_at self.old.cells at.now cell)) }
+        ensures err { OnErr result (self.new ≡ self.old) }
+    {
+        if self.is_full_for(at, &cell) {
+            return Err(VarFault::Full);
+        }
+        match self.put(at, cell) {
+            Ok(()) => Ok(()),
+            Err(AllocError) => Err(VarFault::NoMemory),
+        }
+    }
+
+    /// Whether the cells would be on too many pages if one were set.
+    fn is_full_for(&self, at: &Coord, cell: &Cell) -> bool
+        requires slots { length at.now ≡ self.now.slots }
+        requires kind { IsTrue (is_of_kind self.now.kind cell.now) }
+        ensures { IsTrue result ↔ (MOST_PAGES < page_count (set_at self.now.cells at.now cell.now)) }
+    {
+        self.cells.needs_more(MOST_PAGES, number_of(at), cell)
     }
 
     /// Sets the cell at a key, on any number of pages; NA takes it away. Want of memory leaves all as it

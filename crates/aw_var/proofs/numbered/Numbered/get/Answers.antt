@@ -3,7 +3,8 @@ use Rattle.std.proofs.lemmas.Option.{get_or_from_slice_get}
 use Rattle.aw_cell.specs.declared.cell.Cell.TheVariants.{Na}
 use Rattle.aw_var.specs.inside.NumberedMap.{NumberedMap, cell_of}
 use Rattle.aw_var.specs.inside.Sheets.{SheetCells}
-use Rattle.aw_var.proofs.Sheets.{cell_of-all, cell_on}
+use Rattle.aw_var.specs.inside.Differences.{cell_on}
+use Rattle.aw_var.proofs.Sheets.{cell_of-all}
 use Rattle.aw_var.proofs.numbered.Numbered.get.Goals as goal
 
 pub returns-in-Some : goal.returns-in-Some
