@@ -5,6 +5,8 @@ ghost use Rattle.aw_cell.specs.declared.cell.Cell.TheVariants.{Na};
 ghost use Rattle.aw_page.specs.Fitting.{is_na, is_of_kind, IsPlain, IsTextOrNa};
 ghost use Rattle.aw_var.specs.inside.Sheets.{is_text_kind};
 ghost use Rattle.aw_var.specs.inside.Shared.{IsHeldBy};
+ghost use Rattle.aw_var.specs.inside.Differences.{cell_on};
+ghost use Rattle.std.specs.Option.{option_copied};
 
 use aw_cell::{Cell, Kind};
 use aw_page::{Page, TextPage};
@@ -113,6 +115,20 @@ impl Sheet {
         }
     }
 
+    /// Whether every cell but that at a place is NA.
+    pub fn is_blank_without(&self, at: u8) -> bool
+        requires place { at < 64 }
+        requires size { length self.now.1 ≡ 64 }
+        ensures { result ≡ list_all is_na (slice_set self.now.1 at Na) }
+    {
+        for place in 0..64 {
+            if place != at && self.get(place) != Cell::Na {
+                return false;
+            }
+        }
+        true
+    }
+
     /// The page itself, where its cells aren't TEXT.
     pub fn plain(&self) -> Option<&Page>
         ensures none { IsNone result ↔ IsTrue self.now.0 }
@@ -136,5 +152,16 @@ impl Clone for Sheet {
             Shared::Text(page) => Shared::Text(Arc::try_clone(page)?),
         };
         Ok(Sheet { page })
+    }
+}
+
+/// The cell at a place of a sheet, NA where there is no sheet.
+pub fn cell_in(sheet: Option<&Sheet>, at: u8) -> Cell
+    requires { at < 64 }
+    ensures { result ≡ cell_on (option_copied sheet.entry) at }
+{
+    match sheet {
+        Some(sheet) => sheet.get(at),
+        None => Cell::Na,
     }
 }
