@@ -1,1 +1,7 @@
+mod Editing
 mod GivenSlots
+mod LookUps
+mod NameIndexes
+mod NameOrder
+mod Placing
+mod Valid

@@ -3,8 +3,9 @@ ghost use Rattle.std.specs.Option.{option_map};
 ghost use Rattle.aw_dim.specs.Values.{Values, IsDimension, slot_of, name_of, position_of, HasName, HasSlot};
 ghost use Rattle.aw_dim.specs.Edits.{empty, added, removed, renamed, moved};
 
+use crate::change::{name_anew, put, shift, take};
 use crate::fault::DimFault;
-use crate::index::{enlist, mark_places, name_at, rank, unlist};
+use crate::index::{name_by, place_of, rank, slot_at};
 use crate::making::{are_named, by_name, find_places, names_rise};
 use aw_cell::Text;
 use aw_lists::List;
@@ -140,26 +141,25 @@ impl Dimension {
         Some(*slot)
     }
 
+    fn place(&self, slot: u16) -> Option<u16>
+        ensures { result ≡ position_of self.now slot }
+    {
+        place_of(self.entries.as_slice(), self.places.as_slice(), slot)
+    }
+
     /// The place from 0 of the value with a slot, or `None` where there is none. It takes no memory.
     pub fn position_of(&self, slot: u16) -> Option<u32>
         ensures { result ≡ position_of self.now slot }
     {
-        let place = *self.places.get(usize::from(slot))?;
-        let (found, _) = self.entries.get(usize::from(place))?;
-        if *found == slot {
-            Some(u32::from(place))
-        } else {
-            None
-        }
+        let place = self.place(slot)?;
+        Some(u32::from(place))
     }
 
     /// The name of the value with a slot, or `None` where there is none. It takes no memory.
     pub fn name_of(&self, slot: u16) -> Option<Text>
         ensures { result ≡ name_of self.now slot }
     {
-        let place = self.position_of(slot)?;
-        let (_, name) = self.entries.get(place as usize)?;
-        Some(*name)
+        name_by(self.entries.as_slice(), self.place(slot))
     }
 
     /// The slot of the value with a name, or `None` where there is none. It takes no memory.
@@ -168,12 +168,7 @@ impl Dimension {
     {
         let (entries, places) = (self.entries.as_slice(), self.places.as_slice());
         let at = rank(entries, places, self.by_name.as_slice(), name.bytes());
-        let slot = *self.by_name.get(at)?;
-        if name_at(entries, places, slot) == name.bytes() {
-            Some(slot)
-        } else {
-            None
-        }
+        slot_at(entries, places, self.by_name.as_slice(), at, name.bytes())
     }
 
     /// Adds a value at a place, from 0 to the length, and answers its slot, which is the next one.
@@ -192,19 +187,12 @@ impl Dimension {
         if self.slot_of(&name).is_some() {
             return Err(DimFault::Duplicate);
         }
-        let next = self.places.len();
-        if next == Self::MOST {
+        if self.places.len() == Self::MOST {
             return Err(DimFault::Full);
         }
-        self.by_name.reserve(1)?;
-        self.entries.reserve(1)?;
-        self.places.push(0)?;
-        let value = (next as u16, name);
-        let _ = self.entries.insert(place as usize, value);
-        let entries = self.entries.as_slice();
-        mark_places(entries, self.places.as_mut_slice(), place as usize);
-        enlist(entries, self.places.as_slice(), &mut self.by_name, &value);
-        Ok(value.0)
+        let (entries, places, by_name) = (&mut self.entries, &mut self.places, &mut self.by_name);
+        let slot = put(entries, places, by_name, place as usize, name)?;
+        Ok(slot)
     }
 
     /// Takes the value with a slot away. `NoValue` where there is none. It takes no memory.
@@ -214,22 +202,11 @@ impl Dimension {
         ensures some { IsOk result ↔ HasSlot self.old slot }
         ensures no_value { IfErr result (λ fault. fault ≡ DimFault.NoValue) }
     {
-        let Some(place) = self.position_of(slot) else {
+        let Some(place) = self.place(slot) else {
             return Err(DimFault::NoValue);
         };
-        let value = self.entries[place as usize];
-        unlist(
-            self.entries.as_slice(),
-            self.places.as_slice(),
-            &mut self.by_name,
-            &value,
-        );
-        self.entries.remove(place as usize);
-        mark_places(
-            self.entries.as_slice(),
-            self.places.as_mut_slice(),
-            place as usize,
-        );
+        let place = usize::from(place);
+        take(&mut self.entries, &mut self.places, &mut self.by_name, place);
         Ok(())
     }
 
@@ -243,27 +220,14 @@ impl Dimension {
         ensures duplicate { (result ≡ Err DimFault.Duplicate) ↔ (HasSlot self.old slot × HasName self.old name) }
         ensures some { IsOk result ↔ (HasSlot self.old slot × (slot_of self.old name ≡ None)) }
     {
-        let Some(place) = self.position_of(slot) else {
+        let Some(place) = self.place(slot) else {
             return Err(DimFault::NoValue);
         };
         if self.slot_of(&name).is_some() {
             return Err(DimFault::Duplicate);
         }
-        let (place, value) = (place as usize, (slot, name));
-        let old = self.entries[place];
-        unlist(
-            self.entries.as_slice(),
-            self.places.as_slice(),
-            &mut self.by_name,
-            &old,
-        );
-        self.entries[place] = value;
-        enlist(
-            self.entries.as_slice(),
-            self.places.as_slice(),
-            &mut self.by_name,
-            &value,
-        );
+        let (entries, places) = (&mut self.entries, self.places.as_slice());
+        name_anew(entries, places, &mut self.by_name, usize::from(place), slot, name);
         Ok(())
     }
 
@@ -276,17 +240,12 @@ impl Dimension {
         ensures some { IsOk result ↔ HasSlot self.old slot }
         ensures no_value { IfErr result (λ fault. fault ≡ DimFault.NoValue) }
     {
-        let Some(from) = self.position_of(slot) else {
+        let Some(from) = self.place(slot) else {
             return Err(DimFault::NoValue);
         };
-        let value = self.entries.remove(from as usize);
-        let place = (place as usize).min(self.entries.len());
-        let _ = self.entries.insert(place, value);
-        mark_places(
-            self.entries.as_slice(),
-            self.places.as_mut_slice(),
-            place.min(from as usize),
-        );
+        let last = self.entries.len() - 1;
+        let to = (place as usize).min(last);
+        shift(&mut self.entries, &mut self.places, usize::from(from), to);
         Ok(())
     }
 
