@@ -1,3 +1,4 @@
+mod Changes
 mod Editing
 mod GivenSlots
 mod LookUps
@@ -5,3 +6,4 @@ mod NameIndexes
 mod NameOrder
 mod Placing
 mod Valid
+mod Views

@@ -1,12 +1,12 @@
 -- Which value the look-ups find.
-use Rattle.std.proofs.Common.{ℕ, zero, suc, Bool, true, false, cond, ◌≡◌, ◌≢◌, ◌+◌, ◌<◌, ◌==◌, List, [], ◌∷◌, length, slice_get, Some, None, option_map, find, bytes_eq, refl, sym, ◌∙◌, ap, arith}
+use Rattle.std.proofs.Common.{ℕ, zero, suc, Bool, true, false, cond, ◌≡◌, ◌≢◌, ◌+◌, ◌<◌, ◌==◌, List, [], ◌∷◌, length, slice_get, Some, None, option_map, is_some, find, bytes_eq, refl, sym, ◌∙◌, ap, arith}
 use Rattle.std.specs.List.{position_from}
 use Rattle.std.proofs.lemmas.Slice.Eq.{bytes_eq-Decides}
 use Rattle.std.proofs.lemmas.Bool.Decides.{Decides-eqb}
 use Rattle.aw_dim.specs.Values.{Entry, Values, slot_of, name_of, position_of}
 use Rattle.std.proofs.Common.{Option}
 use Rattle.std.proofs.lemmas.Option.{slice_get_within}
-use Rattle.aw_dim.specs.inside.Index.{Has, SlotsFit, ArePlaced, IsNameIndex, indexed_place, name_by, place_at, same_place, indexed_name, listed_slot}
+use Rattle.aw_dim.specs.inside.Index.{Has, SlotsFit, ArePlaced, IsNameIndex, IsIndexed, indexed_place, name_by, place_at, same_place, indexed_name, listed_slot}
 use Rattle.aw_dim.proofs.Placing.{fit_from_placed, name_of_placed}
 use Rattle.aw_dim.proofs.Editing.{one_element}
 use Rattle.aw_dim.proofs.NameIndexes.{one_slot, at_rank, splits_all, Splits, RanksBy}
@@ -48,7 +48,7 @@ module _ {X : Type 0} (test : X → Bool) where
       rw (found.earlier zero x (omega arith) refl)
       (find_first xs place first (record { value = found.value; passes = found.passes; earlier = λ k y h. found.earlier (suc k) y (omega (arith, h)) }))
 
-test_false : (n slot : ℕ) → n ≢ slot → (n == slot) ≡ false
+pub test_false : (n slot : ℕ) → n ≢ slot → (n == slot) ≡ false
 test_false n slot ne = by (n == slot) refl
   where
     by : (b : Bool) → (n == slot) ≡ b → b ≡ false
@@ -142,6 +142,13 @@ name-position values slot = by (position_of values slot) refl
     by None none = sym (name-lost values slot none)
     by (Some place) found = let stands = stands-at values slot place found in ap (option_map (λ (entry : Entry). entry.1)) stands.value ∙ sym stands.named
 
+pub is_some-position : (values : Values) (slot : ℕ) → is_some (position_of values slot) ≡ is_some (name_of values slot)
+is_some-position values slot = by (position_of values slot) refl
+  where
+    by : (place : Option ℕ) → position_of values slot ≡ place → is_some place ≡ is_some (name_of values slot)
+    by None none = ap is_some (sym (name-lost values slot none))
+    by (Some place) found = ap is_some (sym (stands-at values slot place found).named)
+
 -- the place that the index gives
 pub position-indexed : (values : Values) (places : List ℕ) → ArePlaced values.entries places (length values.entries) → (slot : ℕ) → indexed_place values.entries places slot ≡ position_of values slot
 position-indexed values places placed slot = by_place (slice_get places slot) refl
@@ -215,3 +222,9 @@ slot-listed values places slots placed index name rank ranks = by_slot (slice_ge
         let no : Some other ≡ None = sym (at_rank (Has values.entries) slots index name rank split other has) ∙ none in
         cc))
     by_slot (Some slot) at_slot = by_name slot at_slot (bytes_eq (indexed_name values.entries places slot) name) refl
+
+-- a name that isn't found is no value's
+pub name-unused : (values : Values) (places slots : List ℕ) → IsIndexed values.entries places slots → (name : List ℕ) → slot_of values name ≡ None → (slot : ℕ) → Has values.entries slot name → ⊥
+name-unused values places slots stands name none slot has =
+    let e : None ≡ Some slot = sym none ∙ slot_of-some values (length places) (fit_from_placed values.entries places stands.placed) slots stands.indexed name slot has in
+    cc

@@ -35,7 +35,7 @@ pub fn put(
     places.push(0)?;
     let value = (slot, name);
     let _ = entries.insert(place, value);
-    mark_places(entries.as_slice(), places.as_mut_slice(), place);
+    mark_places(entries.as_slice(), places, place);
     enlist(entries.as_slice(), places.as_slice(), by_name, &value);
     Ok(slot)
 }
@@ -56,7 +56,7 @@ pub fn take(
     let value = entries[place];
     unlist(entries.as_slice(), places.as_slice(), by_name, &value);
     entries.remove(place);
-    mark_places(entries.as_slice(), places.as_mut_slice(), place);
+    mark_places(entries.as_slice(), places, place);
 }
 
 /// Gives the value at a place, which has this slot, another name.
@@ -94,5 +94,5 @@ pub fn shift(entries: &mut Vec<(u16, Text)>, places: &mut Vec<u16>, from: usize,
 {
     let value = entries.remove(from);
     let _ = entries.insert(to, value);
-    mark_places(entries.as_slice(), places.as_mut_slice(), from.min(to));
+    mark_places(entries.as_slice(), places, from.min(to));
 }

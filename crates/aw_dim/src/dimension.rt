@@ -1,5 +1,5 @@
-ghost use Rattle.std.specs.Prelude.{◌≡◌, ◌≢◌, ◌↔◌, ◌≤◌, [], length, IsSome, IsOk, IfOk, IfErr, IfSome, OnOk, OnErr, None, Some, Err, slice_get};
-ghost use Rattle.std.specs.Option.{option_map};
+ghost use Rattle.std.specs.Prelude.{◌≡◌, ◌≢◌, ◌↔◌, ◌≤◌, [], length, IsSome, is_some, IsOk, IfOk, IfErr, IfSome, OnOk, OnErr, None, Some, Err, slice_get};
+ghost use Rattle.std.specs.Option.{option_map, ForSome};
 ghost use Rattle.aw_dim.specs.Values.{Values, IsDimension, slot_of, name_of, position_of, HasName, HasSlot};
 ghost use Rattle.aw_dim.specs.Edits.{empty, added, removed, renamed, moved};
 
@@ -7,6 +7,8 @@ use crate::change::{name_anew, put, shift, take};
 use crate::fault::DimFault;
 use crate::index::{name_by, place_of, rank, slot_at};
 use crate::making::{are_named, by_name, find_places, names_rise};
+ghost use Rattle.aw_dim.specs.inside.Index.{IsAt};
+
 use aw_cell::Text;
 use aw_lists::List;
 use std::alloc::{AllocError, Global};
@@ -142,7 +144,9 @@ impl Dimension {
     }
 
     fn place(&self, slot: u16) -> Option<u16>
-        ensures { result ≡ position_of self.now slot }
+        ensures value { result ≡ position_of self.now slot }
+        ensures here { ForSome result (λ place. IsAt self.now.entries place slot) }
+        ensures known { is_some result ≡ is_some (name_of self.now slot) }
     {
         place_of(self.entries.as_slice(), self.places.as_slice(), slot)
     }

@@ -7,11 +7,12 @@ ghost use Rattle.aw_dim.specs.inside.Index.{ArePlaced, Has, HasBut, IsNameIndex,
 use aw_cell::Text;
 
 /// Writes the place of each value from a place on at its slot.
-pub fn mark_places(entries: &[(u16, Text)], places: &mut [u16], from: usize)
-    requires fit { SlotsFit entries.now (length places.old) }
+pub fn mark_places(entries: &[(u16, Text)], places: &mut Vec<u16>, from: usize)
+    requires fit { SlotsFit entries.now (length places.old.items) }
     requires few { length entries.now ≤ 65536 }
-    requires before { ArePlaced entries.now places.old from }
-    ensures { ArePlaced entries.now places.new (length entries.now) }
+    requires before { ArePlaced entries.now places.old.items from }
+    ensures placed { ArePlaced entries.now places.new.items (length entries.now) }
+    ensures next { length places.new.items ≡ length places.old.items }
 {
     for place in from..entries.len() {
         places[usize::from(entries[place].0)] = place as u16;
