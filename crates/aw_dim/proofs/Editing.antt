@@ -1,6 +1,8 @@
 -- Which element stands at a place after one was put in, taken out, or written over.
 use Rattle.std.proofs.Common.{ℕ, zero, suc, ◌≡◌, ◌≢◌, ◌+◌, ◌<◌, ◌≤◌, ◌⊎◌, List, [], ◌∷◌, ◌++◌, length, slice_get, slice_set, Some, None, insert, remove, refl, sym, ◌∙◌, ap, arith, inl, inr, ⊎_elim}
+use Rattle.std.proofs.Common.{take, drop, append-nil}
 use Rattle.std.proofs.lemmas.Bool.{cases_lt, cases_order}
+use Rattle.std.proofs.lemmas.List.{drop_all, take_all}
 use Rattle.std.proofs.lemmas.Option.{slice_get_within}
 
 module _ {X : Type 0} where
@@ -139,3 +141,8 @@ shifted_same xs at i j x y one other same =
           | inr more ↦ let h = shifted_order xs at j i y x other one more in absurd (omega (arith, h, same))
         ]
     ]
+
+-- what is left of a list over all of which another of its length was written
+pub all_written : {X : Type 0} (n : ℕ) (xs ys : List X) → length xs ≡ n → length ys ≡ n → take n (xs ++ drop (length xs) ys) ≡ xs
+all_written n xs ys e f =
+    rw (drop_all (length xs) ys (omega (arith, e, f)), append-nil xs) (take_all n xs (omega (arith, e)))

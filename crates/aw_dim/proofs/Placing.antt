@@ -135,3 +135,40 @@ module _ (entries : List Entry) (at slot : ℕ) (name : List ℕ) (here : slice_
   has_from_remove held known has =
       let first = drawn entries at has.place (held, known) has.value in
       record { place = first.place; value = first.value }
+
+-- one more place written at its slot
+pub mark_step : (entries : List Entry) (places : List ℕ) (room place slot : ℕ) (name : List ℕ) → SlotsFit entries room → ArePlaced entries places place → slice_get entries place ≡ Some (slot, name) → slot < length places → ArePlaced entries (slice_set places slot place) (place + 1)
+mark_step entries places room place slot name fit placed here within = record {
+  at = λ k held known h g.
+      elim (cases_order k place) [
+        | inl e ↦
+            let same : (held, known) ≡ (slot, name) = one_element entries place (held, known) (slot, name) (rw e at g) here in
+            let is : slot ≡ held = slot_from (slot, name) (held, known) (sym same) in
+            written k held e is
+        | inr apart ↦ elim apart [
+            | inl less ↦
+                set_other places slot held place (λ is. (let again : k ≡ place = fit.apart k place held known name g (rw (← is) here) in omega (arith, again, less)))
+                ∙ placed.at k held known less g
+            | inr more ↦ absurd (omega (arith, h, more))
+          ]
+      ]
+}
+  where
+    written : (k held : ℕ) → k ≡ place → slot ≡ held → slice_get (slice_set places slot place) held ≡ Some k
+    written k held e is = rw (← is, e) (set_at places slot place within)
+
+-- one more place found at its slot
+pub found_step : (entries : List Entry) (places : List ℕ) (place slot : ℕ) (name : List ℕ) → ArePlaced entries places place → slice_get entries place ≡ Some (slot, name) → slice_get places slot ≡ Some place → ArePlaced entries places (place + 1)
+found_step entries places place slot name placed here found = record {
+  at = λ k held known h g.
+      elim (cases_order k place) [
+        | inl e ↦
+            let same : (held, known) ≡ (slot, name) = one_element entries place (held, known) (slot, name) (rw e at g) here in
+            let is : slot ≡ held = slot_from (slot, name) (held, known) (sym same) in
+            rw (← is, e) found
+        | inr apart ↦ elim apart [
+            | inl less ↦ placed.at k held known less g
+            | inr more ↦ absurd (omega (arith, h, more))
+          ]
+      ]
+}

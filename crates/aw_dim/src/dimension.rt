@@ -5,8 +5,8 @@ ghost use Rattle.aw_dim.specs.Edits.{empty, added, removed, renamed, moved};
 
 use crate::change::{name_anew, put, shift, take};
 use crate::fault::DimFault;
-use crate::index::{name_by, place_of, rank, slot_at};
-use crate::making::{are_named, by_name, find_places, names_rise};
+use crate::index::{mark_places, name_by, place_of, rank, slot_at};
+use crate::making::{are_below, are_named, are_placed, by_name, names_rise};
 ghost use Rattle.aw_dim.specs.inside.Index.{IsAt};
 
 use aw_cell::Text;
@@ -89,15 +89,15 @@ impl Dimension {
         ensures value { IfOk result (λ made. IfSome made (λ dimension. dimension ≡ record { entries = entries; next = next })) }
         ensures exact { IfOk result (λ made. IsSome made ↔ IsDimension (record { entries = entries; next = next })) }
     {
-        if next as usize > Self::MOST
-            || entries.len() > next as usize
-            || !are_named(entries.as_slice())
-        {
+        let slots = next as usize;
+        let named = are_named(entries.as_slice()) && are_below(entries.as_slice(), next);
+        if !named || slots > Self::MOST || entries.len() > slots {
             return Ok(None);
         }
         let entries = entries.into_vec();
-        let mut places = vec![in alloc; 0; next as usize]?;
-        if !find_places(entries.as_slice(), places.as_mut_slice()) {
+        let mut places = vec![in alloc; 0; slots]?;
+        mark_places(entries.as_slice(), &mut places, 0);
+        if !are_placed(entries.as_slice(), places.as_slice()) {
             return Ok(None);
         }
         let by_name = by_name(alloc, entries.as_slice(), places.as_slice())?;

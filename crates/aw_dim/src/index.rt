@@ -2,16 +2,20 @@
 ghost use Rattle.std.specs.Prelude.{ℕ, ◌≡◌, ◌<◌, ◌≤◌, length, vec_len, vec_capacity, slice_get, IsTrue, true, false};
 ghost use Rattle.std.specs.List.Sorted.{IsPartitionedBy, IsPartitionPoint};
 ghost use Rattle.aw_cell.specs.Text.{is_text};
-ghost use Rattle.aw_dim.specs.inside.Index.{ArePlaced, Has, HasBut, IsNameIndex, SlotsFit, indexed_name, indexed_place, listed_slot, name_by, precedes};
+ghost use Rattle.aw_dim.specs.inside.Index.{AreBelow, ArePlaced, Has, HasBut, IsNameIndex, SlotsFit, indexed_name, indexed_place, listed_slot, name_by, precedes};
 
 use aw_cell::Text;
 
-/// Writes the place of each value from a place on at its slot.
+/// Writes the place of each value from a place on at its slot. Where no two values have one slot,
+/// all places then stand at the slots.
 pub fn mark_places(entries: &[(u16, Text)], places: &mut Vec<u16>, from: usize)
-    requires fit { SlotsFit entries.now (length places.old.items) }
+    requires below { AreBelow entries.now (length places.old.items) }
     requires few { length entries.now ≤ 65536 }
-    requires before { ArePlaced entries.now places.old.items from }
-    ensures placed { ArePlaced entries.now places.new.items (length entries.now) }
+    ensures placed {
+        SlotsFit entries.now (length places.old.items) →
+        ArePlaced entries.now places.old.items from →
+        ArePlaced entries.now places.new.items (length entries.now)
+    }
     ensures next { length places.new.items ≡ length places.old.items }
 {
     for place in from..entries.len() {

@@ -28,6 +28,10 @@ pub record HasBut (entries : List Entry) (but slot : ℕ) (name : List ℕ) : Ty
   pub value : slice_get entries place ≡ Some (slot, name)
   pub other : but ≡ slot → ⊥
 
+-- each slot is below a number
+pub record AreBelow (entries : List Entry) (room : ℕ) : Type 0 where
+  pub below : (place slot : ℕ) (name : List ℕ) → slice_get entries place ≡ Some (slot, name) → slot < room
+
 -- no two values have one slot, and each slot is below a number
 pub record SlotsFit (entries : List Entry) (room : ℕ) : Type 0 where
   pub apart : (one other slot : ℕ) (name renamed : List ℕ) → slice_get entries one ≡ Some (slot, name) → slice_get entries other ≡ Some (slot, renamed) → one ≡ other
