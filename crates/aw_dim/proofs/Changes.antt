@@ -77,7 +77,7 @@ module _ (entries : List Entry) (places by_name : List ℕ) (stands : IsIndexed 
       rename-placed = record {
         at = λ place held known h g.
             let before = renamed_slot place held known g in
-            stands.placed.at place held before.0 (slice_get_within entries place (held, before.0) before.1) before.1
+            stands.placed.at place held before.0 (slice_get_within entries place (held, before.0) before.1) before.1;
       }
 
       other_kept : (held : ℕ) (known : List ℕ) → HasBut entries slot held known → HasBut (slice_set entries at (slot, new)) slot held known
@@ -130,8 +130,8 @@ module _ (entries : List Entry) (places : List ℕ) (placed : ArePlaced entries 
   shift-before count low early = record {
     at = λ place held known h g.
         let before : slice_get entries place ≡ Some (held, known) =
-              sym (insert_below (remove entries from) to place (slot, name) (omega (arith, h, early)) within ∙ remove_below entries from place (omega (arith, h, low))) ∙ g in
-        placed.at place held known (slice_get_within entries place (held, known) before) before
+        sym (insert_below (remove entries from) to place (slot, name) (omega (arith, h, early)) within ∙ remove_below entries from place (omega (arith, h, low))) ∙ g in
+        placed.at place held known (slice_get_within entries place (held, known) before) before;
   }
 
   pub shift-has : (held : ℕ) (known : List ℕ) → Has entries held known → Has (insert (remove entries from) to (slot, name)) held known

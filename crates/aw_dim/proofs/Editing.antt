@@ -80,9 +80,9 @@ module _ {X : Type 0} where
       elim (cases_order k i) [
         | inl e ↦ inl (e, one_element (insert xs i y) i y x (insert_at xs i y g) (rw e at h))
         | inr other ↦ elim other [
-            | inl less ↦ inr record { place = k; value = sym (insert_below xs i k y less g) ∙ h; below = λ _. refl; above = λ more. absurd (omega (arith, less, more)); other = omega (arith, less) }
-            | inr more ↦ inr (behind xs i k y x g h more)
-          ]
+          | inl less ↦ inr record { place = k; value = sym (insert_below xs i k y less g) ∙ h; below = λ _. refl; above = λ more. absurd (omega (arith, less, more)); other = omega (arith, less) }
+          | inr more ↦ inr (behind xs i k y x g h more)
+        ]
       ]
     where
       behind : (xs : List X) (i k : ℕ) (y x : X) → i ≤ length xs → slice_get (insert xs i y) k ≡ Some x → i < k → Shifted xs i k x
@@ -123,12 +123,12 @@ shifted_order xs at i j x y one other less =
     elim (cases_order i at) [
       | inl e ↦ absurd (one.other e)
       | inr apart ↦ elim (cases_order j at) [
-          | inl e ↦ absurd (other.other e)
-          | inr away ↦ elim apart [
-              | inl low ↦ let p = one.below low in elim away [ inl under ↦ let q = other.below under in omega (arith, p, q, less) | inr over ↦ let q = other.above over in omega (arith, p, q, low, over) ]
-              | inr high ↦ let p = one.above high in elim away [ inl under ↦ absurd (omega (arith, high, under, less)) | inr over ↦ let q = other.above over in omega (arith, p, q, less) ]
-            ]
+        | inl e ↦ absurd (other.other e)
+        | inr away ↦ elim apart [
+          | inl low ↦ let p = one.below low in elim away [ inl under ↦ let q = other.below under in omega (arith, p, q, less) | inr over ↦ let q = other.above over in omega (arith, p, q, low, over) ]
+          | inr high ↦ let p = one.above high in elim away [ inl under ↦ absurd (omega (arith, high, under, less)) | inr over ↦ let q = other.above over in omega (arith, p, q, less) ]
         ]
+      ]
     ]
 
 -- two elements of one place before stand at one place
@@ -137,9 +137,9 @@ shifted_same xs at i j x y one other same =
     elim (cases_order i j) [
       | inl e ↦ e
       | inr apart ↦ elim apart [
-          | inl less ↦ let h = shifted_order xs at i j x y one other less in absurd (omega (arith, h, same))
-          | inr more ↦ let h = shifted_order xs at j i y x other one more in absurd (omega (arith, h, same))
-        ]
+        | inl less ↦ let h = shifted_order xs at i j x y one other less in absurd (omega (arith, h, same))
+        | inr more ↦ let h = shifted_order xs at j i y x other one more in absurd (omega (arith, h, same))
+      ]
     ]
 
 -- what is left of a list over all of which another of its length was written

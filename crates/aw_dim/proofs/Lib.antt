@@ -2,6 +2,7 @@ mod Changes
 mod Editing
 mod GivenSlots
 mod LookUps
+mod Made
 mod NameIndexes
 mod NameOrder
 mod Placing

@@ -67,7 +67,7 @@ module _ (values : Values) (room : ℕ) (fit : SlotsFit values.entries room) (sl
   at_slot place name value = record {
     value = value;
     passes = (Decides-eqb slot slot).1 refl;
-    earlier = λ k entry less h. test_false entry.0 slot (λ e. let same : k ≡ place = fit.apart k place slot entry.1 name (rw (← e) h) value in omega (arith, same, less))
+    earlier = λ k entry less h. test_false entry.0 slot (λ e. let same : k ≡ place = fit.apart k place slot entry.1 name (rw (← e) h) value in omega (arith, same, less));
   }
 
   no_slot : ((place : ℕ) (name : List ℕ) → slice_get values.entries place ≡ Some (slot, name) → ⊥) → NonePasses (λ (entry : Entry). entry.0 == slot) values.entries
@@ -135,6 +135,7 @@ stands-at values slot place e =
     let passes = find_passes (λ entry. entry.0 == slot) values.entries found.first found.is in
     let same : found.first ≡ (slot, found.first.1) = λ i. ((Decides-eqb found.first.0 slot).0 passes i, found.first.1) in
     record { name = found.first.1; value = rw here at (found.value ∙ ap Some same); named = ap (option_map (λ (entry : Entry). entry.1)) found.is }
+
 pub name-position : (values : Values) (slot : ℕ) → name_by values.entries (position_of values slot) ≡ name_of values slot
 name-position values slot = by (position_of values slot) refl
   where
@@ -155,18 +156,21 @@ position-indexed values places placed slot = by_place (slice_get places slot) re
   where
     fit : SlotsFit values.entries (length places)
     fit = fit_from_placed values.entries places placed
+
     standing : (place : ℕ) (name : List ℕ) → slice_get values.entries place ≡ Some (slot, name) → slice_get places slot ≡ Some place
     standing place name value = placed.at place slot name (slice_get_within values.entries place (slot, name) value) value
+
     by_slot : (place : ℕ) (entry : Entry) → slice_get places slot ≡ Some place → slice_get values.entries place ≡ Some entry → (same : Bool) → (entry.0 == slot) ≡ same → cond same (Some place) None ≡ position_of values slot
     by_slot place entry at_slot value true same = sym (position_of-some values (length places) fit slot place entry.1 (rw (← (Decides-eqb entry.0 slot).0 same) value))
     by_slot place entry at_slot value false same =
         sym (position_of-none values (length places) fit slot (λ other name is.
-          let e : Some other ≡ Some place = sym (standing other name is) ∙ at_slot in
-          let here : other ≡ place = cc in
-          let one : (slot, name) ≡ entry = one_element values.entries place (slot, name) entry (rw here at is) value in
-          let yes = (Decides-eqb entry.0 slot).1 (sym (ap (λ (x : Entry). x.0) one)) in
-          let no : true ≡ false = sym yes ∙ same in
-          cc))
+        let e : Some other ≡ Some place = sym (standing other name is) ∙ at_slot in
+        let here : other ≡ place = cc in
+        let one : (slot, name) ≡ entry = one_element values.entries place (slot, name) entry (rw here at is) value in
+        let yes = (Decides-eqb entry.0 slot).1 (sym (ap (λ (x : Entry). x.0) one)) in
+        let no : true ≡ false = sym yes ∙ same in
+        cc))
+
     by_entry : (place : ℕ) → slice_get places slot ≡ Some place → (entry : Option Entry) → slice_get values.entries place ≡ entry → same_place slot place entry ≡ position_of values slot
     by_entry place at_slot None none = sym (position_of-none values (length places) fit slot (λ other name is.
         let e : Some other ≡ Some place = sym (standing other name is) ∙ at_slot in
@@ -174,6 +178,7 @@ position-indexed values places placed slot = by_place (slice_get places slot) re
         let no : Some (slot, name) ≡ None = sym (rw here at is) ∙ none in
         cc))
     by_entry place at_slot (Some entry) value = by_slot place entry at_slot value (entry.0 == slot) refl
+
     by_place : (place : Option ℕ) → slice_get places slot ≡ place → place_at values.entries slot place ≡ position_of values slot
     by_place None none = sym (position_of-none values (length places) fit slot (λ other name is.
         let no : Some other ≡ None = sym (standing other name is) ∙ none in
@@ -189,12 +194,12 @@ module _ (values : Values) (room : ℕ) (fit : SlotsFit values.entries room) (sl
         let is : slice_get values.entries k ≡ Some (entry.0, name) = rw (← e) h in
         let same : entry.0 ≡ slot = one_slot (Has values.entries) slots index entry.0 slot name (record { place = k; value = is }) has in
         let place : k ≡ has.place = fit.apart k has.place slot name name (rw (← same) is) has.value in
-        omega (arith, place, less))
+        omega (arith, place, less));
   }))
 
   pub slot_of-none : ((slot : ℕ) → Has values.entries slot name → ⊥) → slot_of values name ≡ None
   slot_of-none none = ap (option_map (λ (entry : Entry). entry.0)) (find_none (λ entry. bytes_eq entry.1 name) values.entries (record {
-    fails = λ k entry h. bytes_false entry.1 name (λ e. none entry.0 (record { place = k; value = rw (← e) h }))
+    fails = λ k entry h. bytes_false entry.1 name (λ e. none entry.0 (record { place = k; value = rw (← e) h }));
   }))
 
 -- the slot that the index gives at a name's rank
@@ -203,8 +208,10 @@ slot-listed values places slots placed index name rank ranks = by_slot (slice_ge
   where
     fit : SlotsFit values.entries (length places)
     fit = fit_from_placed values.entries places placed
+
     split : Splits (Has values.entries) slots name rank
     split = splits_all values.entries places placed slots index name rank ranks
+
     by_name : (slot : ℕ) → slice_get slots rank ≡ Some slot → (same : Bool) → bytes_eq (indexed_name values.entries places slot) name ≡ same → cond same (Some slot) None ≡ slot_of values name
     by_name slot at_slot true same =
         let known = index.named rank slot at_slot in
@@ -212,11 +219,12 @@ slot-listed values places slots placed index name rank ranks = by_slot (slice_ge
         sym (slot_of-some values (length places) fit slots index name slot (rw is at known.1))
     by_name slot at_slot false same =
         sym (slot_of-none values (length places) fit slots index name (λ other has.
-          let e : Some slot ≡ Some other = sym at_slot ∙ at_rank (Has values.entries) slots index name rank split other has in
-          let one : slot ≡ other = cc in
-          let is : indexed_name values.entries places slot ≡ name = name_of_placed values.entries places slot name placed (rw one has) in
-          let no : true ≡ false = sym ((bytes_eq-Decides (indexed_name values.entries places slot) name).1 is) ∙ same in
-          cc))
+        let e : Some slot ≡ Some other = sym at_slot ∙ at_rank (Has values.entries) slots index name rank split other has in
+        let one : slot ≡ other = cc in
+        let is : indexed_name values.entries places slot ≡ name = name_of_placed values.entries places slot name placed (rw one has) in
+        let no : true ≡ false = sym ((bytes_eq-Decides (indexed_name values.entries places slot) name).1 is) ∙ same in
+        cc))
+
     by_slot : (slot : Option ℕ) → slice_get slots rank ≡ slot → listed_slot values.entries places name slot ≡ slot_of values name
     by_slot None none = sym (slot_of-none values (length places) fit slots index name (λ other has.
         let no : Some other ≡ None = sym (at_rank (Has values.entries) slots index name rank split other has) ∙ none in

@@ -14,7 +14,7 @@ pub index_same : (has same : ℕ → List ℕ → Type 0) (slots : List ℕ) →
 index_same has same slots to from index = record {
   rise = λ i j one other name later h at_i at_j p q. index.rise i j one other name later h at_i at_j (from one name p) (from other later q);
   named = λ i slot h. let known = index.named i slot h in (known.0, to slot known.0 known.1);
-  all = λ slot name h. index.all slot name (from slot name h)
+  all = λ slot name h. index.all slot name (from slot name h);
 }
 
 -- the names before the rank stand before a name, and the others don't
@@ -46,7 +46,7 @@ module _ (entries : List Entry) (places : List ℕ) (placed : ArePlaced entries 
     before = λ i slot known h at_i p. sym (ap (λ (other : List ℕ). precedes other name) (name_of_placed entries places slot known placed (within slot known p)))
         ∙ ap stands_before (sym (get_or_from_slice_get slots i slot 0 at_i)) ∙ point.0 i 0 (omega arith) h;
     behind = λ i slot known h at_i p. sym (ap (λ (other : List ℕ). precedes other name) (name_of_placed entries places slot known placed (within slot known p)))
-        ∙ ap stands_before (sym (get_or_from_slice_get slots i slot 0 at_i)) ∙ point.1 i 0 h (slice_get_within slots i slot at_i)
+        ∙ ap stands_before (sym (get_or_from_slice_get slots i slot 0 at_i)) ∙ point.1 i 0 h (slice_get_within slots i slot at_i);
   }
 
 module _ (has : ℕ → List ℕ → Type 0) (slots : List ℕ) (index : IsNameIndex has slots) where
@@ -57,9 +57,9 @@ module _ (has : ℕ → List ℕ → Type 0) (slots : List ℕ) (index : IsNameI
       elim (cases_order i j) [
         | inl e ↦ e
         | inr other ↦ elim other [
-            | inl less ↦ absurd (precedes-irrefl known.0 (index.rise i j slot slot known.0 known.0 less at_i at_j known.1 known.1))
-            | inr more ↦ absurd (precedes-irrefl known.0 (index.rise j i slot slot known.0 known.0 more at_j at_i known.1 known.1))
-          ]
+          | inl less ↦ absurd (precedes-irrefl known.0 (index.rise i j slot slot known.0 known.0 less at_i at_j known.1 known.1))
+          | inr more ↦ absurd (precedes-irrefl known.0 (index.rise j i slot slot known.0 known.0 more at_j at_i known.1 known.1))
+        ]
       ]
 
   -- two slots of one name are one
@@ -70,9 +70,9 @@ module _ (has : ℕ → List ℕ → Type 0) (slots : List ℕ) (index : IsNameI
       elim (cases_order i.0 j.0) [
         | inl e ↦ one_element slots j.0 one other (rw e at i.1) j.1
         | inr apart ↦ elim apart [
-            | inl less ↦ absurd (precedes-irrefl name (index.rise i.0 j.0 one other name name less i.1 j.1 h g))
-            | inr more ↦ absurd (precedes-irrefl name (index.rise j.0 i.0 other one name name more j.1 i.1 g h))
-          ]
+          | inl less ↦ absurd (precedes-irrefl name (index.rise i.0 j.0 one other name name less i.1 j.1 h g))
+          | inr more ↦ absurd (precedes-irrefl name (index.rise j.0 i.0 other one name name more j.1 i.1 g h))
+        ]
       ]
 
   -- a slot with a name stands at the name's rank
@@ -82,9 +82,9 @@ module _ (has : ℕ → List ℕ → Type 0) (slots : List ℕ) (index : IsNameI
       elim (cases_order i.0 rank) [
         | inl e ↦ rw e at i.1
         | inr apart ↦ elim apart [
-            | inl less ↦ absurd (precedes-irrefl name (split.before i.0 slot name less i.1 h))
-            | inr more ↦ absurd (earlier i.0 i.1 more)
-          ]
+          | inl less ↦ absurd (precedes-irrefl name (split.before i.0 slot name less i.1 h))
+          | inr more ↦ absurd (earlier i.0 i.1 more)
+        ]
       ]
     where
       earlier : (i : ℕ) → slice_get slots i ≡ Some slot → rank < i → ⊥
@@ -107,16 +107,16 @@ module _ (entries : List Entry) (places : List ℕ) (placed : ArePlaced entries 
     rise = λ i j one other known later less h g p q.
         elim (shifted slots rank i slot one within h) [
           | inl first ↦ elim (shifted slots rank j slot other within g) [
-              | inl second ↦ let e = first.0 in let f = second.0 in absurd (omega (arith, e, f, less))
-              | inr second ↦ behind j one other known later (let e = first.0 in omega (arith, e, less)) (first.1) second p q
-            ]
+            | inl second ↦ let e = first.0 in let f = second.0 in absurd (omega (arith, e, f, less))
+            | inr second ↦ behind j one other known later (let e = first.0 in omega (arith, e, less)) (first.1) second p q
+          ]
           | inr first ↦ elim (shifted slots rank j slot other within g) [
-              | inl second ↦ before i one other known later (let e = second.0 in omega (arith, e, less)) second.1 first p q
-              | inr second ↦
-                  let old = index.named first.place one first.value in
-                  let next = index.named second.place other second.value in
-                  index.rise first.place second.place one other known later (shifted_order slots rank i j one other first second less) first.value second.value (but one old.0 known old.1 p) (but other next.0 later next.1 q)
-            ]
+            | inl second ↦ before i one other known later (let e = second.0 in omega (arith, e, less)) second.1 first p q
+            | inr second ↦
+                let old = index.named first.place one first.value in
+                let next = index.named second.place other second.value in
+                index.rise first.place second.place one other known later (shifted_order slots rank i j one other first second less) first.value second.value (but one old.0 known old.1 p) (but other next.0 later next.1 q)
+          ]
         ];
     named = λ i held h.
         elim (shifted slots rank i slot held within h) [
@@ -129,11 +129,12 @@ module _ (entries : List Entry) (places : List ℕ) (placed : ArePlaced entries 
           | inr apart ↦
               let i = index.all held known (record { place = h.place; value = h.value; other = λ e. (elim apart [ inl less ↦ omega (arith, e, less) | inr more ↦ omega (arith, e, more) ]) }) in
               kept slots rank i.0 slot held within i.1
-        ]
+        ];
   }
     where
       moved : (held : ℕ) → slot ≡ held → Has entries held name
       moved held e = rw (← e) value
+
       behind : (j one other : ℕ) (known later : List ℕ) → rank < j → slot ≡ one → Shifted slots rank j other → Has entries one known → Has entries other later → precedes known later ≡ true
       behind j one other known later more e second p q =
           let old = index.named second.place other second.value in
@@ -143,6 +144,7 @@ module _ (entries : List Entry) (places : List ℕ) (placed : ArePlaced entries 
           let no = split.behind second.place other later (omega (arith, up, more)) second.value has in
           let apart : later ≢ name = λ is. unused other (rw is at has) in
           rw same (precedes-total later name no apart)
+
       before : (i one other : ℕ) (known later : List ℕ) → i < rank → slot ≡ other → Shifted slots rank i one → Has entries one known → Has entries other later → precedes known later ≡ true
       before i one other known later less e first p q =
           let old = index.named first.place one first.value in
@@ -163,20 +165,20 @@ module _ (entries : List Entry) (places : List ℕ) (placed : ArePlaced entries 
         (old.0, record { place = old.1.place; value = old.1.value; other = λ e. first.other (listed_once (Has entries) slots index first.place rank held first.value (rw e at here)) });
     all = λ held known h.
         let i = index.all held known (record { place = h.place; value = h.value }) in
-        left_in slots rank i.0 held (λ e. h.other (one_element slots rank slot held here (rw e at i.1))) i.1
+        left_in slots rank i.0 held (λ e. h.other (one_element slots rank slot held here (rw e at i.1))) i.1;
   }
     where
       order : (i j one other : ℕ) → i < j → (i < rank → one ≡ i) → (rank ≤ i → one ≡ i + 1) → (j < rank → other ≡ j) → (rank ≤ j → other ≡ j + 1) → one < other
       order i j one other less a b c d =
           elim (cases_lt i rank) [
             | inl below ↦ elim (cases_lt j rank) [
-                | inl under ↦ let p = a below in let q = c under in omega (arith, p, q, less)
-                | inr over ↦ let p = a below in let q = d over in omega (arith, p, q, less)
-              ]
+              | inl under ↦ let p = a below in let q = c under in omega (arith, p, q, less)
+              | inr over ↦ let p = a below in let q = d over in omega (arith, p, q, less)
+            ]
             | inr above ↦ elim (cases_lt j rank) [
-                | inl under ↦ absurd (omega (arith, above, under, less))
-                | inr over ↦ let p = b above in let q = d over in omega (arith, p, q, less)
-              ]
+              | inl under ↦ absurd (omega (arith, above, under, less))
+              | inr over ↦ let p = b above in let q = d over in omega (arith, p, q, less)
+            ]
           ]
 
 -- what `rank` promises

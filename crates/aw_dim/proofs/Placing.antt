@@ -20,7 +20,7 @@ fit_from_placed entries places placed = record {
       let second = placed.at other slot renamed (slice_get_within entries other (slot, renamed) g) g in
       one_element_place one other (sym first ∙ second);
   below = λ place slot name h.
-      slice_get_within places slot place (placed.at place slot name (slice_get_within entries place (slot, name) h) h)
+      slice_get_within places slot place (placed.at place slot name (slice_get_within entries place (slot, name) h) h);
 }
   where
     one_element_place : (one other : ℕ) → Some one ≡ Some other → one ≡ other
@@ -42,23 +42,24 @@ module _ (entries : List Entry) (at slot : ℕ) (name : List ℕ) (within : at �
     apart = λ one other held known renamed h g.
         elim (shifted entries at one (slot, name) (held, known) within h) [
           | inl first ↦ elim (shifted entries at other (slot, name) (held, renamed) within g) [
-              | inl second ↦ first.0 ∙ sym second.0
-              | inr second ↦ absurd (fresh second.place renamed (moved held (slot_from (slot, name) (held, known) first.1) second.place renamed second.value))
-            ]
+            | inl second ↦ first.0 ∙ sym second.0
+            | inr second ↦ absurd (fresh second.place renamed (moved held (slot_from (slot, name) (held, known) first.1) second.place renamed second.value))
+          ]
           | inr first ↦ elim (shifted entries at other (slot, name) (held, renamed) within g) [
-              | inl second ↦ absurd (fresh first.place known (moved held (slot_from (slot, name) (held, renamed) second.1) first.place known first.value))
-              | inr second ↦ together held known renamed one other first second
-            ]
+            | inl second ↦ absurd (fresh first.place known (moved held (slot_from (slot, name) (held, renamed) second.1) first.place known first.value))
+            | inr second ↦ together held known renamed one other first second
+          ]
         ];
     below = λ place held known h.
         elim (shifted entries at place (slot, name) (held, known) within h) [
           | inl first ↦ let e : slot ≡ held = slot_from (slot, name) (held, known) first.1 in omega (arith, e, new)
           | inr first ↦ let b : held < room = fit.below first.place held known first.value in omega (arith, b, wide)
-        ]
+        ];
   }
     where
       moved : (held : ℕ) → slot ≡ held → (place : ℕ) (known : List ℕ) → slice_get entries place ≡ Some (held, known) → slice_get entries place ≡ Some (slot, known)
       moved held e place known h = rw e h
+
       together : (held : ℕ) (known renamed : List ℕ) (one other : ℕ) → Shifted entries at one (held, known) → Shifted entries at other (held, renamed) → one ≡ other
       together held known renamed one other first second =
           shifted_same entries at one other (held, known) (held, renamed) first second (fit.apart first.place second.place held known renamed first.value second.value)
@@ -68,7 +69,7 @@ module _ (entries : List Entry) (at slot : ℕ) (name : List ℕ) (within : at �
   placed-insert places more placed = record {
     at = λ place held known h g.
         let before : slice_get entries place ≡ Some (held, known) = sym (insert_below entries at place (slot, name) h within) ∙ g in
-        append_left places more held place (placed.at place held known (slice_get_within entries place (held, known) before) before)
+        append_left places more held place (placed.at place held known (slice_get_within entries place (held, known) before) before);
   }
 
   -- but for the new value they have what they had
@@ -92,7 +93,7 @@ module _ (entries : List Entry) (at slot : ℕ) (name : List ℕ) (here : slice_
   pub fit-remove : (room : ℕ) → SlotsFit entries room → SlotsFit (remove entries at) room
   fit-remove room fit = record {
     apart = λ one other held known renamed h g. together held known renamed one other (drawn entries at one (held, known) h) (drawn entries at other (held, renamed) g);
-    below = λ place held known h. let first = drawn entries at place (held, known) h in fit.below first.place held known first.value
+    below = λ place held known h. let first = drawn entries at place (held, known) h in fit.below first.place held known first.value;
   }
     where
       together : (held : ℕ) (known renamed : List ℕ) (one other : ℕ) → Drawn entries at one (held, known) → Drawn entries at other (held, renamed) → one ≡ other
@@ -100,13 +101,13 @@ module _ (entries : List Entry) (at slot : ℕ) (name : List ℕ) (here : slice_
           let same : first.place ≡ second.place = fit.apart first.place second.place held known renamed first.value second.value in
           elim (cases_lt one at) [
             | inl less ↦ elim (cases_lt other at) [
-                | inl before ↦ sym (first.below less) ∙ same ∙ second.below before
-                | inr behind ↦ let p = first.below less in let q = second.from behind in absurd (omega (arith, p, q, same, less, behind))
-              ]
+              | inl before ↦ sym (first.below less) ∙ same ∙ second.below before
+              | inr behind ↦ let p = first.below less in let q = second.from behind in absurd (omega (arith, p, q, same, less, behind))
+            ]
             | inr more ↦ elim (cases_lt other at) [
-                | inl before ↦ let p = first.from more in let q = second.below before in absurd (omega (arith, p, q, same, more, before))
-                | inr behind ↦ let p = first.from more in let q = second.from behind in omega (arith, p, q, same)
-              ]
+              | inl before ↦ let p = first.from more in let q = second.below before in absurd (omega (arith, p, q, same, more, before))
+              | inr behind ↦ let p = first.from more in let q = second.from behind in omega (arith, p, q, same)
+            ]
           ]
 
   pub gone : (room : ℕ) → SlotsFit entries room → (k : ℕ) (other : List ℕ) → slice_get (remove entries at) k ≡ Some (slot, other) → ⊥
@@ -118,7 +119,7 @@ module _ (entries : List Entry) (at slot : ℕ) (name : List ℕ) (here : slice_
   placed-remove places placed = record {
     at = λ place held known h g.
         let before : slice_get entries place ≡ Some (held, known) = sym (remove_below entries at place h) ∙ g in
-        placed.at place held known (slice_get_within entries place (held, known) before) before
+        placed.at place held known (slice_get_within entries place (held, known) before) before;
   }
 
   pub has-remove : (held : ℕ) (known : List ℕ) → HasBut entries slot held known → Has (remove entries at) held known
@@ -146,12 +147,12 @@ mark_step entries places room place slot name fit placed here within = record {
             let is : slot ≡ held = slot_from (slot, name) (held, known) (sym same) in
             written k held e is
         | inr apart ↦ elim apart [
-            | inl less ↦
-                set_other places slot held place (λ is. (let again : k ≡ place = fit.apart k place held known name g (rw (← is) here) in omega (arith, again, less)))
-                ∙ placed.at k held known less g
-            | inr more ↦ absurd (omega (arith, h, more))
-          ]
-      ]
+          | inl less ↦
+              set_other places slot held place (λ is. (let again : k ≡ place = fit.apart k place held known name g (rw (← is) here) in omega (arith, again, less)))
+              ∙ placed.at k held known less g
+          | inr more ↦ absurd (omega (arith, h, more))
+        ]
+      ];
 }
   where
     written : (k held : ℕ) → k ≡ place → slot ≡ held → slice_get (slice_set places slot place) held ≡ Some k
@@ -167,8 +168,8 @@ found_step entries places place slot name placed here found = record {
             let is : slot ≡ held = slot_from (slot, name) (held, known) (sym same) in
             rw (← is, e) found
         | inr apart ↦ elim apart [
-            | inl less ↦ placed.at k held known less g
-            | inr more ↦ absurd (omega (arith, h, more))
-          ]
-      ]
+          | inl less ↦ placed.at k held known less g
+          | inr more ↦ absurd (omega (arith, h, more))
+        ]
+      ];
 }

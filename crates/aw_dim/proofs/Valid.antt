@@ -22,23 +22,25 @@ with_slot (entry ∷ entries) slot h = by (eqb slot entry.0) refl (with_slot ent
         (zero, entry.1, ap Some value)
     by false same more g = let rest = more g in (suc rest.0, rest.1, rest.2)
 
+slot_at : (entries : List Entry) (k d : ℕ) → k < length entries → slice_index_or (map (λ (entry : Entry). entry.0) entries) k d ≡ (slice_index_or entries k (0, [])).0
+slot_at entries k d h =
+    get_or_from_slice_get (map (λ (entry : Entry). entry.0) entries) k (slice_index_or entries k (0, [])).0 d
+    (slice_get-map (λ (entry : Entry). entry.0) entries k ∙ ap (option_map (λ (entry : Entry). entry.0)) (slice_get-get_or entries k (0, []) h))
+
+-- the slots are distinct numbers
+pub slots_distinct : (entries : List Entry) (room : ℕ) → SlotsFit entries room → AllPairs (λ one other. one ≢ other) (map (λ (entry : Entry). entry.0) entries)
+slots_distinct entries room fit i j d less h e =
+    let within : j < length entries = simp length-map at h in
+    let below : i < length entries = omega (arith, less, within) in
+    let same : (slice_index_or entries i (0, [])).0 ≡ (slice_index_or entries j (0, [])).0 = sym (slot_at entries i d below) ∙ e ∙ slot_at entries j d within in
+    let is = fit.apart i j (slice_index_or entries j (0, [])).0 (slice_index_or entries i (0, [])).1 (slice_index_or entries j (0, [])).1 (rw (← same) (slice_get-get_or entries i (0, []) below)) (slice_get-get_or entries j (0, []) within) in
+    omega (arith, is, less)
+
 -- there are no more values than slots
 pub few : (entries : List Entry) (room : ℕ) → SlotsFit entries room → length entries ≤ room
 few entries room fit =
     rw (← length-map entries (λ (entry : Entry). entry.0))
-    (length-le_from_distinct_below (map (λ (entry : Entry). entry.0) entries) room (IsDistinct-from_AllPairs Decides-eqb (map (λ (entry : Entry). entry.0) entries) apart) (λ q h. let found = with_slot entries q h in fit.below found.0 q found.1 found.2))
-  where
-    slot_at : (k d : ℕ) → k < length entries → slice_index_or (map (λ (entry : Entry). entry.0) entries) k d ≡ (slice_index_or entries k (0, [])).0
-    slot_at k d h =
-        get_or_from_slice_get (map (λ (entry : Entry). entry.0) entries) k (slice_index_or entries k (0, [])).0 d
-        (slice_get-map (λ (entry : Entry). entry.0) entries k ∙ ap (option_map (λ (entry : Entry). entry.0)) (slice_get-get_or entries k (0, []) h))
-    apart : AllPairs (λ one other. one ≢ other) (map (λ (entry : Entry). entry.0) entries)
-    apart i j d less h e =
-        let within : j < length entries = simp length-map at h in
-        let below : i < length entries = omega (arith, less, within) in
-        let same : (slice_index_or entries i (0, [])).0 ≡ (slice_index_or entries j (0, [])).0 = sym (slot_at i d below) ∙ e ∙ slot_at j d within in
-        let is = fit.apart i j (slice_index_or entries j (0, [])).0 (slice_index_or entries i (0, [])).1 (slice_index_or entries j (0, [])).1 (rw (← same) (slice_get-get_or entries i (0, []) below)) (slice_get-get_or entries j (0, []) within) in
-        omega (arith, is, less)
+    (length-le_from_distinct_below (map (λ (entry : Entry). entry.0) entries) room (IsDistinct-from_AllPairs Decides-eqb (map (λ (entry : Entry). entry.0) entries) (slots_distinct entries room fit)) (λ q h. let found = with_slot entries q h in fit.below found.0 q found.1 found.2))
 
 pub valid : (entries : List Entry) (places by_name : List ℕ) → IsIndexed entries places by_name → IsDimension (record { entries = entries; next = length places })
 valid entries places by_name stands =
@@ -57,7 +59,7 @@ valid entries places by_name stands =
           omega (arith, same, less);
       slots_below = λ k d h. fit.below k (slice_index_or entries k d).0 (slice_index_or entries k d).1 (slice_get-get_or entries k d h);
       names_are_texts = λ k d h. stands.texts (slice_index_or entries k d).0 (slice_index_or entries k d).1 (record { place = k; value = slice_get-get_or entries k d h });
-      next_most = stands.most
+      next_most = stands.most;
     }
 
 -- so they are at most 65,536

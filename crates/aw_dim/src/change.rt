@@ -4,10 +4,9 @@ ghost use Rattle.std.specs.List.{insert, remove};
 ghost use Rattle.aw_dim.specs.Values.{Entry};
 ghost use Rattle.aw_dim.specs.inside.Index.{ArePlaced, Has, IsAt, IsIndexed};
 
+use crate::index::{enlist, mark_places, unlist};
 use aw_cell::Text;
 use std::alloc::AllocError;
-
-use crate::index::{enlist, mark_places, unlist};
 
 /// Puts a value with the next slot in at a place, and answers the slot. Want of memory leaves the
 /// values as they were.

@@ -2,13 +2,12 @@ ghost use Rattle.std.specs.Prelude.{◌≡◌, ◌≢◌, ◌↔◌, ◌≤◌, 
 ghost use Rattle.std.specs.Option.{option_map, ForSome};
 ghost use Rattle.aw_dim.specs.Values.{Values, IsDimension, slot_of, name_of, position_of, HasName, HasSlot};
 ghost use Rattle.aw_dim.specs.Edits.{empty, added, removed, renamed, moved};
+ghost use Rattle.aw_dim.specs.inside.Index.{IsAt};
 
 use crate::change::{name_anew, put, shift, take};
 use crate::fault::DimFault;
 use crate::index::{mark_places, name_by, place_of, rank, slot_at};
-use crate::making::{are_below, are_named, are_placed, by_name, names_rise};
-ghost use Rattle.aw_dim.specs.inside.Index.{IsAt};
-
+use crate::making::{are_listed, are_placed, by_name, names_rise};
 use aw_cell::Text;
 use aw_lists::List;
 use std::alloc::{AllocError, Global};
@@ -89,13 +88,11 @@ impl Dimension {
         ensures value { IfOk result (λ made. IfSome made (λ dimension. dimension ≡ record { entries = entries; next = next })) }
         ensures exact { IfOk result (λ made. IsSome made ↔ IsDimension (record { entries = entries; next = next })) }
     {
-        let slots = next as usize;
-        let named = are_named(entries.as_slice()) && are_below(entries.as_slice(), next);
-        if !named || slots > Self::MOST || entries.len() > slots {
+        if !are_listed(entries.as_slice(), next) {
             return Ok(None);
         }
         let entries = entries.into_vec();
-        let mut places = vec![in alloc; 0; slots]?;
+        let mut places = vec![in alloc; 0; next as usize]?;
         mark_places(entries.as_slice(), &mut places, 0);
         if !are_placed(entries.as_slice(), places.as_slice()) {
             return Ok(None);
@@ -210,7 +207,12 @@ impl Dimension {
             return Err(DimFault::NoValue);
         };
         let place = usize::from(place);
-        take(&mut self.entries, &mut self.places, &mut self.by_name, place);
+        take(
+            &mut self.entries,
+            &mut self.places,
+            &mut self.by_name,
+            place,
+        );
         Ok(())
     }
 
@@ -231,7 +233,14 @@ impl Dimension {
             return Err(DimFault::Duplicate);
         }
         let (entries, places) = (&mut self.entries, self.places.as_slice());
-        name_anew(entries, places, &mut self.by_name, usize::from(place), slot, name);
+        name_anew(
+            entries,
+            places,
+            &mut self.by_name,
+            usize::from(place),
+            slot,
+            name,
+        );
         Ok(())
     }
 

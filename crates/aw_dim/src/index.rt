@@ -11,11 +11,9 @@ use aw_cell::Text;
 pub fn mark_places(entries: &[(u16, Text)], places: &mut Vec<u16>, from: usize)
     requires below { AreBelow entries.now (length places.old.items) }
     requires few { length entries.now ≤ 65536 }
-    ensures placed {
-        SlotsFit entries.now (length places.old.items) →
+    ensures placed { SlotsFit entries.now (length places.old.items) →
         ArePlaced entries.now places.old.items from →
-        ArePlaced entries.now places.new.items (length entries.now)
-    }
+        ArePlaced entries.now places.new.items (length entries.now) }
     ensures next { length places.new.items ≡ length places.old.items }
 {
     for place in from..entries.len() {
@@ -42,13 +40,7 @@ pub fn place_of(entries: &[(u16, Text)], places: &[u16], slot: u16) -> Option<u1
 {
     match places.get(usize::from(slot)) {
         Some(place) => match entries.get(usize::from(*place)) {
-            Some(entry) => {
-                if entry.0 == slot {
-                    Some(*place)
-                } else {
-                    None
-                }
-            }
+            Some(entry) => { if entry.0 == slot { Some(*place) } else { None } }
             None => None,
         },
         None => None,

@@ -1,30 +1,46 @@
 //! The index of a dimension that is made from its values.
-ghost use Rattle.std.specs.Prelude.{ℕ, ◌≡◌, ◌≢◌, ◌↔◌, ◌<◌, ◌≤◌, [], length, map, IsTrue, IfOk, true};
+ghost use Rattle.std.specs.Prelude.{◌≡◌, ◌↔◌, ◌<◌, length, map, IsTrue, IfOk, true};
 ghost use Rattle.std.specs.Cmp.Lexicographic.{slice_cmp};
 ghost use Rattle.std.specs.List.{All};
 ghost use Rattle.std.specs.List.Sorted.{IsPermutation, IsSortedBy};
 ghost use Rattle.std.specs.Ordering.{nat_cmp};
+ghost use Rattle.aw_dim.specs.Values.{IsValueName};
 ghost use Rattle.aw_dim.specs.inside.Index.{AreBelow, ArePlaced, indexed_name, precedes};
-ghost use Rattle.aw_dim.specs.inside.Making.{RiseBy};
+ghost use Rattle.aw_dim.specs.inside.Making.{AreListed, RiseBy};
 
+use crate::index::name_at;
 use aw_cell::Text;
 use std::alloc::{AllocError, Global};
 use std::cmp::Ordering;
 
-use crate::index::name_at;
+fn is_value_name(name: &Text) -> bool
+    ensures { IsTrue result ↔ IsValueName name.now }
+{
+    !name.bytes().is_empty()
+}
 
 /// Whether no name is empty.
-pub fn are_named(entries: &[(u16, Text)]) -> bool
-    ensures { IsTrue result ↔ All (λ entry. entry.1 ≢ []) entries.now }
+fn are_named(entries: &[(u16, Text)]) -> bool
+    ensures { IsTrue result ↔ All (λ entry. IsValueName entry.1) entries.now }
 {
-    entries.iter().all(|(_, name)| !name.bytes().is_empty())
+    entries.iter().all(|(_, name)| is_value_name(name))
 }
 
 /// Whether each slot is below a number.
-pub fn are_below(entries: &[(u16, Text)], next: u32) -> bool
+fn are_below(entries: &[(u16, Text)], next: u32) -> bool
     ensures { IsTrue result ↔ All (λ entry. entry.0 < next) entries.now }
 {
     entries.iter().all(|(slot, _)| u32::from(*slot) < next)
+}
+
+/// Whether values are named and have slots below the next one, which is at most 65,536.
+pub fn are_listed(entries: &[(u16, Text)], next: u32) -> bool
+    ensures { IsTrue result ↔ AreListed entries.now next }
+{
+    if next > 65_536 || entries.len() > next as usize {
+        return false;
+    }
+    are_named(entries) & are_below(entries, next)
 }
 
 /// Whether the place of each value stands at its slot.

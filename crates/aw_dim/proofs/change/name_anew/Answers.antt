@@ -36,5 +36,5 @@ returns-clause-indexed c =
       placed = rename-placed c.args.entries.now.items c.args.places.now c.args.by_name.now.items c.requires.indexed c.args.place c.args.slot c.requires.here.name c.requires.here.value c.args.name;
       indexed = rw (← e) c.enlist.ensures.listed;
       texts = rename-texts c.args.entries.now.items c.args.places.now c.args.by_name.now.items c.requires.indexed c.args.place c.args.slot c.requires.here.name c.requires.here.value c.args.name (c.enlist.ensures.text, c.requires.named);
-      most = c.requires.indexed.most
+      most = c.requires.indexed.most;
     }

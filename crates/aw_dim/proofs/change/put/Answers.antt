@@ -29,7 +29,7 @@ enlist-requires-clause-placed c =
     let n : length c.args.places.now.items < length c.push.new.self.items = search rules in
     let p : c.push.new.self.items ≡ c.args.places.now.items ++ 0 ∷ [] = search rules in
     let placed : ArePlaced c.as_slice.result.now c.mark_places.new.places.items (length c.as_slice.result.now) =
-        c.mark_places.ensures.placed (rw slice (put-fit c.args.entries.now.items c.args.places.now.items c.args.by_name.now.items c.requires.indexed c.args.place c.args.name (search rules) c.requires.unused (length c.push.new.self.items) n)) (rw (slice, p) (put-before c.args.entries.now.items c.args.places.now.items c.args.by_name.now.items c.requires.indexed c.args.place c.args.name (search rules) c.requires.unused (0 ∷ []))) in
+    c.mark_places.ensures.placed (rw slice (put-fit c.args.entries.now.items c.args.places.now.items c.args.by_name.now.items c.requires.indexed c.args.place c.args.name (search rules) c.requires.unused (length c.push.new.self.items) n)) (rw (slice, p) (put-before c.args.entries.now.items c.args.places.now.items c.args.by_name.now.items c.requires.indexed c.args.place c.args.name (search rules) c.requires.unused (0 ∷ []))) in
     rw (other, same) placed
 
 pub enlist-requires-clause-listed : goal.enlist-requires-clause-listed
@@ -62,10 +62,10 @@ returns-clause-indexed c =
     let n : length c.args.places.now.items < length c.push.new.self.items = search rules in
     let p : c.push.new.self.items ≡ c.args.places.now.items ++ 0 ∷ [] = search rules in
     let placed : ArePlaced c.as_slice.result.now c.mark_places.new.places.items (length c.as_slice.result.now) =
-        c.mark_places.ensures.placed (rw slice (put-fit c.args.entries.now.items c.args.places.now.items c.args.by_name.now.items c.requires.indexed c.args.place c.args.name (search rules) c.requires.unused (length c.push.new.self.items) n)) (rw (slice, p) (put-before c.args.entries.now.items c.args.places.now.items c.args.by_name.now.items c.requires.indexed c.args.place c.args.name (search rules) c.requires.unused (0 ∷ []))) in
+    c.mark_places.ensures.placed (rw slice (put-fit c.args.entries.now.items c.args.places.now.items c.args.by_name.now.items c.requires.indexed c.args.place c.args.name (search rules) c.requires.unused (length c.push.new.self.items) n)) (rw (slice, p) (put-before c.args.entries.now.items c.args.places.now.items c.args.by_name.now.items c.requires.indexed c.args.place c.args.name (search rules) c.requires.unused (0 ∷ []))) in
     record {
       placed = rw (← same) placed;
       indexed = rw (← other) c.enlist.ensures.listed;
       texts = rw e (put-texts c.args.entries.now.items c.args.places.now.items c.args.by_name.now.items c.requires.indexed c.args.place c.args.name (search rules) c.requires.unused (c.enlist.ensures.text, c.requires.named));
-      most = omega (arith, c.mark_places.ensures.next, more, room)
+      most = omega (arith, c.mark_places.ensures.next, more, room);
     }

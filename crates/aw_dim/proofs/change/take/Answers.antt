@@ -29,5 +29,5 @@ returns-clause-indexed c =
       placed = rw (← same) (c.mark_places.ensures.placed (rw (same, e) (take-fit c.args.entries.now.items c.args.places.now.items c.args.by_name.now.items c.requires.indexed c.args.place c.index.result.now.0 c.index.result.now.1 here)) (rw (same, e) (take-before c.args.entries.now.items c.args.places.now.items c.args.by_name.now.items c.requires.indexed c.args.place c.index.result.now.0 c.index.result.now.1 here)));
       indexed = rw e (take-listed c.args.entries.now.items c.args.places.now.items c.args.by_name.now.items c.requires.indexed c.args.place c.index.result.now.0 c.index.result.now.1 here c.unlist.new.by_name.items (rw (← c.as_slice.ensures.value) c.unlist.ensures.listed));
       texts = rw e (take-texts c.args.entries.now.items c.args.places.now.items c.args.by_name.now.items c.requires.indexed c.args.place c.index.result.now.0 c.index.result.now.1 here);
-      most = omega (arith, c.mark_places.ensures.next, c.requires.indexed.most)
+      most = omega (arith, c.mark_places.ensures.next, c.requires.indexed.most);
     }

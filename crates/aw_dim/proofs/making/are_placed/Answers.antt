@@ -17,6 +17,6 @@ loop-place-preserved c =
     let from : c.from.result ≡ c.index-entries-place.result.0 = c.from.ensures ∙ sym (ap (λ (entry : Entry). entry.0) c.index-entries-place.is) in
     let within = c.requires.below c.loop-place.place c.index-entries-place.result.0 c.index-entries-place.result.1 here in
     let found : slice_get c.args.places.now c.index-entries-place.result.0 ≡ Some c.loop-place.place =
-        slice_get-get_or c.args.places.now c.index-entries-place.result.0 0 within
-        ∙ ap Some (ap (λ (slot : ℕ). get_or c.args.places.now slot 0) (sym from) ∙ sym c.from-in-loop-place.ensures ∙ c.if-from-place.false) in
+    slice_get-get_or c.args.places.now c.index-entries-place.result.0 0 within
+    ∙ ap Some (ap (λ (slot : ℕ). get_or c.args.places.now slot 0) (sym from) ∙ sym c.from-in-loop-place.ensures ∙ c.if-from-place.false) in
     found_step c.args.entries.now c.args.places.now c.loop-place.place c.index-entries-place.result.0 c.index-entries-place.result.1 c.loop-place.invariant here found

@@ -15,6 +15,6 @@ returns-clause-sorted c =
     let all : length c.in_ok-slots.slots.items ≡ c.in_ok-slots.slots.len = search rules in
     let whole : take c.in_ok-slots.slots.len (c.sort_unstable_by.new.self ++ drop (length c.sort_unstable_by.new.self) c.in_ok-slots.slots.items) ≡ c.sort_unstable_by.new.self = all_written c.in_ok-slots.slots.len c.sort_unstable_by.new.self c.in_ok-slots.slots.items rest all in
     let sorted : IsSortedBy (λ one other. precedes (indexed_name c.args.entries.now c.args.places.now one) (indexed_name c.args.entries.now c.args.places.now other)) c.sort_unstable_by.new.self =
-        c.sort_unstable_by.ensures.sorted (λ one other. precedes (indexed_name c.args.entries.now c.args.places.now one) (indexed_name c.args.entries.now c.args.places.now other))
-        (ranks_by nat_list_cmp_total (indexed_name c.args.entries.now c.args.places.now)) (always_returns_same _ _ _ (λ a r f k. search rules)) in
+    c.sort_unstable_by.ensures.sorted (λ one other. precedes (indexed_name c.args.entries.now c.args.places.now one) (indexed_name c.args.entries.now c.args.places.now other))
+    (ranks_by nat_list_cmp_total (indexed_name c.args.entries.now c.args.places.now)) (always_returns_same _ _ _ (λ a r f k. search rules)) in
     rw whole sorted

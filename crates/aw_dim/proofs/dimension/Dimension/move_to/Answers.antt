@@ -33,7 +33,7 @@ invariant_of-self c =
           (shift-had c.self.inside.entries.items c.self.inside.places.items c.self.invariant.placed c.in-Some.from c.min-to.result c.args.slot here.name here.value to)
           c.self.invariant.indexed);
       texts = rw is (λ slot name has. c.self.invariant.texts slot name (shift-had c.self.inside.entries.items c.self.inside.places.items c.self.invariant.placed c.in-Some.from c.min-to.result c.args.slot here.name here.value to slot name has));
-      most = omega (arith, c.shift.ensures.next, c.self.invariant.most)
+      most = omega (arith, c.shift.ensures.next, c.self.invariant.most);
     }
 
 pub returns-clause-ok : goal.returns-clause-ok
@@ -41,7 +41,7 @@ returns-clause-ok c =
     let here = at_view (record { entries = c.self.inside.entries.items; next = length c.self.inside.places.items }) c.args.self.now c.in-Some.from c.args.slot c.self.view_is (c.place.ensures.here c.in-Some.from c.in-Some.is) in
     let to : c.min-to.result ≡ min c.args.place (length c.self.inside.entries.items - 1) = search rules in
     let is : c.shift.new.entries.items ≡ insert (remove c.self.inside.entries.items c.in-Some.from) (min c.args.place (length c.self.inside.entries.items - 1)) (c.args.slot, here.name) =
-        c.shift.ensures.entries (c.args.slot, here.name) (rw c.from.ensures here.value)
-        ∙ ap (λ (from : ℕ). insert (remove c.self.inside.entries.items from) c.min-to.result (c.args.slot, here.name)) c.from.ensures
-        ∙ ap (λ (at : ℕ). insert (remove c.self.inside.entries.items c.in-Some.from) at (c.args.slot, here.name)) to in
+    c.shift.ensures.entries (c.args.slot, here.name) (rw c.from.ensures here.value)
+    ∙ ap (λ (from : ℕ). insert (remove c.self.inside.entries.items from) c.min-to.result (c.args.slot, here.name)) c.from.ensures
+    ∙ ap (λ (at : ℕ). insert (remove c.self.inside.entries.items c.in-Some.from) at (c.args.slot, here.name)) to in
     rw (← c.self.view_is) (moved_view (record { entries = c.self.inside.entries.items; next = length c.self.inside.places.items }) (length c.self.inside.places.items) c.args.slot c.in-Some.from (fit c.self.inside.entries.items c.self.inside.places.items c.self.inside.by_name.items c.self.invariant) here c.args.place c.shift.new.entries.items (length c.shift.new.places.items) is c.shift.ensures.next)
