@@ -11,6 +11,7 @@ use crate::making::{are_listed, are_placed, by_name, names_rise};
 use aw_cell::Text;
 use aw_lists::List;
 use std::alloc::{AllocError, Global};
+use std::fmt;
 use std::marker::Model;
 
 /// The values of a dimension, each with a slot that no other value has or had, and a name that no
@@ -58,6 +59,12 @@ impl Eq for Dimension {
     ghost use Rattle.aw_dim.specs.SameValues.{same_values_equivalence};
 
     ghost laws = { same_values_equivalence };
+}
+
+impl fmt::Debug for Dimension {
+    fn fmt<W: fmt::Write>(&self, f: &mut fmt::Formatter<W>) -> fmt::Result {
+        f.debug_list().entries(self.entries()).finish()
+    }
 }
 
 impl Dimension {
@@ -272,5 +279,92 @@ impl Dimension {
             places: Vec::from_slice(self.alloc, self.places.as_slice())?,
             by_name: Vec::from_slice(self.alloc, self.by_name.as_slice())?,
         })
+    }
+}
+
+#[cfg(test)]
+mod tests {
+    use super::*;
+    use std::test::Fail;
+
+    fn needs_send_and_sync<T: Send + Sync + Drop>(_: T) {}
+
+    /// Whether a dimension has these values in this order, and its look-ups find them.
+    fn has(dimension: &Dimension, values: &[(u16, &[u8])]) -> bool {
+        let mut same = dimension.len() as usize == values.len();
+        for (place, (slot, name)) in values.iter().enumerate() {
+            same &= dimension.at(place as u32) == Some(*slot);
+            same &= dimension.position_of(*slot) == Some(place as u32);
+            same &= match (dimension.name_of(*slot), Text::of(name)) {
+                (Some(found), Some(text)) => {
+                    found == text && dimension.slot_of(&text) == Some(*slot)
+                }
+                _ => false,
+            };
+        }
+        same
+    }
+
+    /// Adds a value, and says whether it got a slot.
+    fn adds(dimension: &mut Dimension, name: &[u8], place: u32, slot: u16) -> bool {
+        match Text::of(name) {
+            Some(text) if !text.bytes().is_empty() && place <= dimension.len() => {
+                dimension.add(text, place) == Ok(slot)
+            }
+            _ => false,
+        }
+    }
+
+    /// Whether a call succeeded.
+    fn done(ended: Result<(), DimFault>) -> bool {
+        ended == Ok(())
+    }
+
+    #[test]
+    fn keeps_its_values_in_order(rt: HostRuntime) -> Result<(), Fail> {
+        let mut dimension = Dimension::new(rt.alloc());
+        let added = adds(&mut dimension, b"North", 0, 0)
+            & adds(&mut dimension, b"East", 1, 1)
+            & adds(&mut dimension, b"All", 0, 2);
+        assert!(rt; added & has(&dimension, &[(2, b"All"), (0, b"North"), (1, b"East")]));
+        let removed = done(dimension.remove(1)) & !done(dimension.remove(1));
+        let again = adds(&mut dimension, b"East", 2, 3) & !adds(&mut dimension, b"All", 0, 4);
+        assert!(rt; removed & again & has(&dimension, &[(2, b"All"), (0, b"North"), (3, b"East")]));
+        Ok(())
+    }
+
+    #[test]
+    fn moves_renames_and_copies(rt: HostRuntime) -> Result<(), Fail> {
+        let mut dimension = Dimension::new(rt.alloc());
+        let added = adds(&mut dimension, b"C", 0, 0)
+            & adds(&mut dimension, b"A", 1, 1)
+            & adds(&mut dimension, b"B", 2, 2);
+        let moved = done(dimension.move_to(0, 1));
+        assert!(rt; added & moved & has(&dimension, &[(1, b"A"), (0, b"C"), (2, b"B")]));
+        let name = Text::of(b"D").ok_or("a text")?;
+        let renamed = !name.bytes().is_empty() && done(dimension.rename(1, name));
+        let moved = done(dimension.move_to(1, 3));
+        assert!(rt; renamed & moved & has(&dimension, &[(0, b"C"), (2, b"B"), (1, b"D")]));
+        assert!(rt; dimension.copied()? == dimension && dimension.next() == 3);
+        needs_send_and_sync(dimension);
+        needs_send_and_sync(DimFault::Full);
+        Ok(())
+    }
+
+    #[test]
+    fn is_made_from_its_values(rt: HostRuntime) -> Result<(), Fail> {
+        let one = Text::of(b"A").ok_or("a text")?;
+        let other = Text::of(b"B").ok_or("a text")?;
+        let same_name = List::from_slice(rt.alloc(), &[(4, one), (2, one)])?;
+        let same_slot = List::from_slice(rt.alloc(), &[(4, one), (4, other)])?;
+        let values = List::from_slice(rt.alloc(), &[(4, other), (2, one)])?;
+        let low = List::from_slice(rt.alloc(), &[(4, other)])?;
+        assert!(rt; Dimension::of(rt.alloc(), same_name, 5)?.is_none());
+        assert!(rt; Dimension::of(rt.alloc(), same_slot, 5)?.is_none());
+        assert!(rt; Dimension::of(rt.alloc(), low, 4)?.is_none());
+        let made = Dimension::of(rt.alloc(), values, 5)?.ok_or("a dimension")?;
+        assert!(rt; has(&made, &[(4, b"B"), (2, b"A")]));
+        crate::slots_are_never_given_again();
+        Ok(())
     }
 }

@@ -8,5 +8,5 @@ pub returns : goal.returns
 returns c =
     c.name_by.ensures
     ∙ ap (λ entries. name_by entries c.place.result) (c.as_slice.ensures.value ∙ ap (λ (values : Values). values.entries) c.self.view_is)
-    ∙ ap (name_by c.args.self.now.entries) c.place.ensures
+    ∙ ap (name_by c.args.self.now.entries) c.place.ensures.value
     ∙ name-position c.args.self.now c.args.slot
