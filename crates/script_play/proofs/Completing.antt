@@ -11,11 +11,11 @@ use Rattle.script_disk.specs.declared.opening.Unopened.TheVariants as unopened
 use Rattle.script_disk.proofs.Completing.{not_unformatted, not_damaged}
 use Rattle.aw_codec.specs.declared.record.Decoded.{Decoded}
 use Rattle.aw_io.specs.Known.{Grows}
-use Rattle.script_world.specs.AllDone.{AreDone}
-use Rattle.script_world.specs.Outcomes.{Outcome, Attempt}
-use Rattle.script_world.specs.FaultLines.{has_faulted}
-use Rattle.script_world.specs.Transcript.{transcript}
-use Rattle.script_world.proofs.AllDone.{none_faulted, transcript_as_with_none}
+use Rattle.script_meaning.specs.AllDone.{AreDone}
+use Rattle.script_meaning.specs.Outcomes.{Outcome, Attempt}
+use Rattle.script_meaning.specs.FaultLines.{has_faulted}
+use Rattle.script_meaning.specs.Transcript.{transcript}
+use Rattle.script_meaning.proofs.AllDone.{none_faulted, transcript_as_with_none}
 use Rattle.script_play.specs.declared.ending.Ending.{Ending}
 use Rattle.script_play.specs.declared.ending.Ending.TheVariants.{Accepted, Refusing, SourceFault, SinkFault, DiskFault, NoMemory, TooLong}
 use Rattle.script_play.specs.Statuses.{status_of}

@@ -12,14 +12,14 @@ use Rattle.mv_core.specs.Workspace.{standing}
 use Rattle.aw_store.specs.Replay.{names_of, workspace_of}
 use Rattle.aw_store.specs.Stores.{StoreState}
 use Rattle.ses_step.specs.declared.answer.Answer.{Answer}
-use Rattle.script_world.specs.Worlds.{World, with_shared, Answered, answered}
-use Rattle.script_world.specs.Outcomes.{Outcome, faulted, Attempt, OnDisk, objects_machine, by_objects}
-use Rattle.script_world.specs.Transcript.{attempts_of}
-use Rattle.script_world.specs.Learning.{outcomes_of, outcomes_in, with_more, world_with, next_answer, UsesAll, GoesOn}
-use Rattle.script_world.specs.StoreTurns.{store_disk}
-use Rattle.script_world.specs.Running.{HasRun, AnswersLine}
-use Rattle.script_world.proofs.Learning.{outcomes_of-append, goes_on}
-use Rattle.script_world.proofs.Running.{has_run}
+use Rattle.script_meaning.specs.Worlds.{World, with_shared, Answered, answered}
+use Rattle.script_meaning.specs.Outcomes.{Outcome, faulted, Attempt, OnDisk, objects_machine, by_objects}
+use Rattle.script_meaning.specs.Transcript.{attempts_of}
+use Rattle.script_meaning.specs.Learning.{outcomes_of, outcomes_in, with_more, world_with, next_answer, UsesAll, GoesOn}
+use Rattle.script_meaning.specs.StoreTurns.{store_disk}
+use Rattle.script_meaning.specs.Running.{HasRun, AnswersLine}
+use Rattle.script_meaning.proofs.Learning.{outcomes_of-append, goes_on}
+use Rattle.script_meaning.proofs.Running.{has_run}
 use Rattle.script_play.specs.declared.world.StoreWorld.{StoreWorld}
 use Rattle.script_play.specs.declared.stop.Stop.{Stop}
 use Rattle.script_play.specs.declared.stop.Stop.TheVariants.{SinkFault, DiskFault, NoMemory}

@@ -13,22 +13,22 @@ use Rattle.mv_core.specs.Workspace.{Workspace, standing}
 use Rattle.mv_core.specs.declared.entry.Change.{Change}
 use Rattle.mv_core.specs.declared.object.Object.{Object}
 use Rattle.aw_cell.specs.declared.cell.Cell.{Cell}
-use Rattle.script_world.specs.StoreTurns.{store_disk}
+use Rattle.script_meaning.specs.StoreTurns.{store_disk}
 use Rattle.aw_journal.specs.Passed.{Passed}
 use Rattle.aw_store.specs.Images.{HoldsRecords, LeftRecords}
 use Rattle.aw_store.specs.Replay.{names_of, workspace_of}
 use Rattle.aw_store.specs.Stores.{StoreState}
-use Rattle.script_world.specs.Worlds.{World, with_shared}
-use Rattle.script_world.specs.Outcomes.{Outcome, faulted, Attempt, OnDisk, by_history}
-use Rattle.script_world.specs.Alike.{standing_disk}
-use Rattle.script_world.specs.Script.{ended_lines, script_lines}
-use Rattle.script_world.specs.Faring.{Fares, HoldsLeft}
-use Rattle.script_world.specs.Matching.{CanBeOpened}
-use Rattle.script_world.specs.Transcript.{opening, text_of, world_at, attempts}
-use Rattle.script_world.specs.Running.{IsRun}
-use Rattle.script_world.proofs.Faring.{fares_opened, fares_final}
-use Rattle.script_world.proofs.Standing.{are_alike}
-use Rattle.script_world.proofs.Running.{is_run, run_opened}
+use Rattle.script_meaning.specs.Worlds.{World, with_shared}
+use Rattle.script_meaning.specs.Outcomes.{Outcome, faulted, Attempt, OnDisk, by_history}
+use Rattle.script_meaning.specs.Alike.{standing_disk}
+use Rattle.script_meaning.specs.Script.{ended_lines, script_lines}
+use Rattle.script_meaning.specs.Faring.{Fares, HoldsLeft}
+use Rattle.script_meaning.specs.Matching.{CanBeOpened}
+use Rattle.script_meaning.specs.Transcript.{opening, text_of, world_at, attempts}
+use Rattle.script_meaning.specs.Running.{IsRun}
+use Rattle.script_meaning.proofs.Faring.{fares_opened, fares_final}
+use Rattle.script_meaning.proofs.Standing.{are_alike}
+use Rattle.script_meaning.proofs.Running.{is_run, run_opened}
 use Rattle.script_play.specs.declared.ending.Ending.{Ending}
 use Rattle.script_play.specs.declared.ending.Ending.TheVariants.{Accepted, Refusing, SourceFault, SinkFault, DiskFault, NoMemory, TooLong}
 use Rattle.script_play.specs.declared.world.StoreWorld.{StoreWorld}

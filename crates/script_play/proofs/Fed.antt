@@ -3,8 +3,8 @@ use Rattle.std.proofs.Common.{◌≡◌, ◌||◌, ℕ, Bool, false, eqb, List, 
 use Rattle.std.specs.Str.Lines.{strip_carriage_return}
 use Rattle.std.proofs.lemmas.Bool.{cond-false}
 use Rattle.aw_io.specs.Known.{Grows-append}
-use Rattle.script_world.specs.Script.{ended_lines, open_line}
-use Rattle.script_world.proofs.ScriptLaws.{ended_lines-push, open_line-push, ended_more}
+use Rattle.script_meaning.specs.Script.{ended_lines, open_line}
+use Rattle.script_meaning.proofs.ScriptLaws.{ended_lines-push, open_line-push, ended_more}
 use Rattle.script_play.specs.declared.stop.Stop.{Stop}
 use Rattle.script_play.specs.declared.stop.Stop.TheVariants.{NoMemory}
 use Rattle.script_play.specs.Playing.{Play, said_of, refuses_of, Responded, RespondedSo, HasDone, HasPlayed, HasStopped, Feeds, StopsIn}

@@ -6,11 +6,11 @@ use Rattle.aw_io.specs.Known.{Grows, Grows-append}
 use Rattle.aw_codec.specs.declared.record.Decoded.{Decoded}
 use Rattle.aw_store.specs.Replay.{names_of}
 use Rattle.aw_store.specs.Stores.{StoreState}
-use Rattle.script_world.specs.Worlds.{with_shared}
-use Rattle.script_world.specs.Outcomes.{done, Attempt}
-use Rattle.script_world.specs.Script.{ended_lines, open_line, script_lines}
-use Rattle.script_world.specs.Transcript.{definition_attempts, last_attempts}
-use Rattle.script_world.specs.StoreTurns.{store_disk}
+use Rattle.script_meaning.specs.Worlds.{with_shared}
+use Rattle.script_meaning.specs.Outcomes.{done, Attempt}
+use Rattle.script_meaning.specs.Script.{ended_lines, open_line, script_lines}
+use Rattle.script_meaning.specs.Transcript.{definition_attempts, last_attempts}
+use Rattle.script_meaning.specs.StoreTurns.{store_disk}
 use Rattle.script_play.specs.declared.world.StoreWorld.{StoreWorld}
 use Rattle.script_play.specs.declared.stop.Stop.{Stop}
 use Rattle.script_play.specs.declared.stop.Stop.TheVariants.{SinkFault, DiskFault, NoMemory}

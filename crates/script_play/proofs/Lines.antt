@@ -21,13 +21,13 @@ use Rattle.ses_step.specs.declared.session.Session.{Session}
 use Rattle.ses_step.specs.Words.{place_of}
 use Rattle.ses_step.specs.Lines.{line_form}
 use Rattle.ses_step.specs.Sessions.{new_session, name_at}
-use Rattle.script_world.specs.Worlds.{World, Turn, turn, Answered, answered_so, refused_as_no_form, no_session, silent, defined, with_session, closed, turned, commanded, session_answered}
-use Rattle.script_world.specs.Outcomes.{Outcome, done, Attempt, OnDisk, objects_machine, by_objects}
-use Rattle.script_world.specs.StoreTurns.{store_disk}
-use Rattle.script_world.specs.Transcript.{attempts_of}
-use Rattle.script_world.proofs.AssignedIntegers.{HasInteger, line_form-integer}
-use Rattle.script_world.proofs.Defining.{definable-push}
-use Rattle.script_world.proofs.DiskTurns.{Writes, IsOfViews, asked-of_views, turn-cases}
+use Rattle.script_meaning.specs.Worlds.{World, Turn, turn, Answered, answered_so, refused_as_no_form, no_session, silent, defined, with_session, closed, turned, commanded, session_answered}
+use Rattle.script_meaning.specs.Outcomes.{Outcome, done, Attempt, OnDisk, objects_machine, by_objects}
+use Rattle.script_meaning.specs.StoreTurns.{store_disk}
+use Rattle.script_meaning.specs.Transcript.{attempts_of}
+use Rattle.script_meaning.proofs.AssignedIntegers.{HasInteger, line_form-integer}
+use Rattle.script_meaning.proofs.Defining.{definable-push}
+use Rattle.script_meaning.proofs.DiskTurns.{Writes, IsOfViews, asked-of_views, turn-cases}
 use Rattle.script_play.specs.declared.world.StoreWorld.{StoreWorld}
 use Rattle.script_play.specs.declared.response.Response.{Response}
 use Rattle.script_play.specs.declared.stop.Stop.{Stop}

@@ -12,7 +12,7 @@ use Rattle.aw_journal.specs.Passed.{Passed}
 use Rattle.aw_store.specs.Images.{HoldsRecords, LeftRecords}
 use Rattle.aw_store.specs.Replay.{can_replay, names_of}
 use Rattle.aw_store.specs.Stores.{StoreState, Writes, Doubts}
-use Rattle.script_world.proofs.Acting.{fares_done, fares_faulted}
+use Rattle.script_meaning.proofs.Acting.{fares_done, fares_faulted}
 use Rattle.script_play.specs.declared.world.StoreWorld.{StoreWorld}
 use Rattle.script_play.specs.Turning.{Opens, FailsToOpen}
 use Rattle.script_play.proofs.Turning.{few-none, later-passed}

@@ -22,14 +22,14 @@ use Rattle.ses_step.specs.declared.line.Command.{Command}
 use Rattle.ses_step.specs.declared.session.Begun.TheVariants.{Said, Ask}
 use Rattle.ses_step.specs.declared.session.Session.{Session}
 use Rattle.ses_step.specs.Sessions.{begun, finished}
-use Rattle.script_world.specs.Worlds.{Turn, turn_from, replied}
-use Rattle.script_world.specs.Outcomes.{Outcome, Attempt, OnDisk, by_objects}
-use Rattle.script_world.specs.Acting.{done_where, outcomes_told, act_attempts, ends_at}
-use Rattle.script_world.specs.Faring.{StoreFares}
-use Rattle.script_world.specs.FaultLines.{has_faulted}
-use Rattle.script_world.specs.StoreTurns.{store_disk}
-use Rattle.script_world.proofs.Acting.{act_steps, act_fares}
-use Rattle.script_world.proofs.Learning.{outcomes_of-act, outcomes_of-append}
+use Rattle.script_meaning.specs.Worlds.{Turn, turn_from, replied}
+use Rattle.script_meaning.specs.Outcomes.{Outcome, Attempt, OnDisk, by_objects}
+use Rattle.script_meaning.specs.Acting.{done_where, outcomes_told, act_attempts, ends_at}
+use Rattle.script_meaning.specs.Faring.{StoreFares}
+use Rattle.script_meaning.specs.FaultLines.{has_faulted}
+use Rattle.script_meaning.specs.StoreTurns.{store_disk}
+use Rattle.script_meaning.proofs.Acting.{act_steps, act_fares}
+use Rattle.script_meaning.proofs.Learning.{outcomes_of-act, outcomes_of-append}
 use Rattle.script_play.specs.Turning.{FewFaults, Later, Moves, Asked, Replied, Turned, TurnTakes}
 
 -- ---- faults

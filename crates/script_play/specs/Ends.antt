@@ -4,12 +4,12 @@ use Rattle.std.specs.Io.KnownBytes.{IsAtEnd}
 use Rattle.aw_io.specs.Known.{Gives, Grows, GrowsByFront}
 use Rattle.aw_codec.specs.declared.record.Decoded.{Decoded}
 use Rattle.aw_store.specs.Images.{HoldsRecords}
-use Rattle.script_world.specs.Matching.{CanBeOpened}
-use Rattle.script_world.specs.AllDone.{AreDone}
-use Rattle.script_world.specs.Faring.{Rise, ended_by, HoldsLeft}
-use Rattle.script_world.specs.Outcomes.{Outcome, faulted, Attempt, by_history}
-use Rattle.script_world.specs.Script.{ended_lines, script_lines}
-use Rattle.script_world.specs.Transcript.{opening, text_of, world_at, attempts, final_attempts, transcript, has_refusal, ended_transcript}
+use Rattle.script_meaning.specs.Matching.{CanBeOpened}
+use Rattle.script_meaning.specs.AllDone.{AreDone}
+use Rattle.script_meaning.specs.Faring.{Rise, ended_by, HoldsLeft}
+use Rattle.script_meaning.specs.Outcomes.{Outcome, faulted, Attempt, by_history}
+use Rattle.script_meaning.specs.Script.{ended_lines, script_lines}
+use Rattle.script_meaning.specs.Transcript.{opening, text_of, world_at, attempts, final_attempts, transcript, has_refusal, ended_transcript}
 use Rattle.script_disk.specs.declared.opening.Unopened.{Unopened}
 use Rattle.script_disk.specs.Opened.{IsUnopened, status_of as unopened_status}
 use Rattle.script_play.specs.declared.ending.Ending.{Ending}

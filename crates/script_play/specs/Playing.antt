@@ -8,14 +8,14 @@ use Rattle.mv_core.specs.Workspace.{standing}
 use Rattle.aw_store.specs.Replay.{workspace_of}
 use Rattle.aw_store.specs.Stores.{StoreState}
 use Rattle.ses_step.specs.Answers.{answer_line, is_refusal}
-use Rattle.script_world.specs.Worlds.{World, with_shared}
-use Rattle.script_world.specs.Outcomes.{Outcome, faulted, Attempt, objects_machine}
-use Rattle.script_world.specs.Script.{ended_lines, open_line, script_lines}
-use Rattle.script_world.specs.Transcript.{attempts_of, last_attempts}
-use Rattle.script_world.specs.Faring.{StoreFares}
-use Rattle.script_world.specs.Learning.{world_with, text_with}
-use Rattle.script_world.specs.StoreTurns.{store_disk}
-use Rattle.script_world.specs.Running.{HasRun}
+use Rattle.script_meaning.specs.Worlds.{World, with_shared}
+use Rattle.script_meaning.specs.Outcomes.{Outcome, faulted, Attempt, objects_machine}
+use Rattle.script_meaning.specs.Script.{ended_lines, open_line, script_lines}
+use Rattle.script_meaning.specs.Transcript.{attempts_of, last_attempts}
+use Rattle.script_meaning.specs.Faring.{StoreFares}
+use Rattle.script_meaning.specs.Learning.{world_with, text_with}
+use Rattle.script_meaning.specs.StoreTurns.{store_disk}
+use Rattle.script_meaning.specs.Running.{HasRun}
 use Rattle.script_play.specs.declared.world.StoreWorld.{StoreWorld}
 use Rattle.script_play.specs.declared.stop.Stop.{Stop}
 use Rattle.script_play.specs.declared.stop.Stop.TheVariants.{SinkFault, DiskFault, NoMemory}

@@ -4,7 +4,7 @@ use Rattle.std.specs.Io.KnownBytes.{IsAtEnd}
 use Rattle.aw_io.specs.Known.{Gives, Grows}
 use Rattle.aw_codec.specs.declared.record.Decoded.{Decoded}
 use Rattle.aw_store.specs.Stores.{StoreState}
-use Rattle.script_world.specs.Script.{ended_lines, script_lines}
+use Rattle.script_meaning.specs.Script.{ended_lines, script_lines}
 use Rattle.script_play.specs.declared.world.StoreWorld.{StoreWorld}
 use Rattle.script_play.specs.declared.ending.Ending.{Ending}
 use Rattle.script_play.specs.declared.ending.Ending.TheVariants.{Accepted, Refusing, SourceFault, SinkFault, DiskFault, NoMemory, TooLong}

@@ -7,12 +7,12 @@ use Rattle.mv_core.specs.declared.object.Object.{Object}
 use Rattle.aw_store.specs.Replay.{names_of}
 use Rattle.aw_store.specs.Stores.{StoreState}
 use Rattle.ses_step.specs.declared.answer.Answer.TheVariants.{Refused}
-use Rattle.ses_step.specs.Answers.{no_form}
+use Rattle.ses_report.specs.Refusals.{no_form}
 use Rattle.ses_step.specs.Words.{place_of}
 use Rattle.ses_step.specs.Sessions.{new_session}
-use Rattle.script_world.specs.Worlds.{World, with_shared, Answered, silent, answered_so, no_session}
-use Rattle.script_world.specs.Outcomes.{Outcome, Attempt, OnDisk}
-use Rattle.script_world.specs.StoreTurns.{store_disk}
+use Rattle.script_meaning.specs.Worlds.{World, with_shared, Answered, silent, answered_so, no_session}
+use Rattle.script_meaning.specs.Outcomes.{Outcome, Attempt, OnDisk}
+use Rattle.script_meaning.specs.StoreTurns.{store_disk}
 use Rattle.script_play.specs.declared.world.StoreWorld.{StoreWorld}
 use Rattle.script_play.specs.declared.response.Response.{Response}
 

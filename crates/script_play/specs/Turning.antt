@@ -19,13 +19,13 @@ use Rattle.ses_step.specs.declared.line.Line.{Line}
 use Rattle.ses_step.specs.declared.line.Line.TheVariants as line
 use Rattle.ses_step.specs.declared.session.Session.{Session}
 use Rattle.ses_step.specs.Sessions.{new_session, finished}
-use Rattle.script_world.specs.Worlds.{World, Answered, turn, closed, commanded, session_answered, line_answered, answered}
-use Rattle.script_world.specs.Outcomes.{Outcome, done, faulted, Attempt, OnDisk, by_objects}
-use Rattle.script_world.specs.Faring.{StoreFares}
-use Rattle.script_world.specs.FaultLines.{has_faulted}
-use Rattle.script_world.specs.Learning.{outcomes_of}
-use Rattle.script_world.specs.StoreTurns.{store_disk}
-use Rattle.script_world.specs.Transcript.{attempts_of}
+use Rattle.script_meaning.specs.Worlds.{World, Answered, turn, closed, commanded, session_answered, line_answered, answered}
+use Rattle.script_meaning.specs.Outcomes.{Outcome, done, faulted, Attempt, OnDisk, by_objects}
+use Rattle.script_meaning.specs.Faring.{StoreFares}
+use Rattle.script_meaning.specs.FaultLines.{has_faulted}
+use Rattle.script_meaning.specs.Learning.{outcomes_of}
+use Rattle.script_meaning.specs.StoreTurns.{store_disk}
+use Rattle.script_meaning.specs.Transcript.{attempts_of}
 use Rattle.script_play.specs.declared.world.StoreWorld.{StoreWorld}
 use Rattle.script_play.specs.declared.stop.Stop.{Stop}
 use Rattle.script_play.specs.declared.stop.Stop.TheVariants.{SinkFault, DiskFault, NoMemory}

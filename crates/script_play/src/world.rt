@@ -3,7 +3,7 @@ ghost use Rattle.aw_cell.specs.Names.{is_name};
 ghost use Rattle.aw_store.specs.Replay.{names_of};
 ghost use Rattle.ses_step.specs.Sessions.{new_session};
 ghost use Rattle.ses_step.specs.Words.{place_of};
-ghost use Rattle.script_world.specs.Worlds as spec;
+ghost use Rattle.script_meaning.specs.Worlds as spec;
 ghost use Rattle.script_play.specs.StoreWorlds.{IsSound, JoinsSo, can_join, own_place, placed};
 ghost use Rattle.script_play.specs.Turning.{TurnsAt, TurnWants, Answers, Wants, OpensSo, ClosesSo, FinishesWorldSo, RespondsSo, IsOpen, DefinesName, command_means, session_means, named_means, form_means, line_means};
 

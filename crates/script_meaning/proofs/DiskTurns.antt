@@ -1,0 +1,176 @@
+-- A turn on a disk: that of the machine without one, with an attempt that is done, or with one that faulted and no change.
+use Rattle.std.specs.Prelude.{◌≡◌, ◌++◌, ℕ, ℤ, Bool, true, false, List, [], ◌∷◌, Option, None, Some, Result, Ok, Err, map, filter, if◌then◌else◌, refl}
+use Rattle.std.proofs.Common.{◌∙◌, ap, sym, subst}
+use Rattle.mv_core.specs.declared.entry.Change.{Change}
+use Rattle.mv_core.specs.declared.entry.Entry.{Entry}
+use Rattle.mv_core.specs.declared.entry.Entry.TheVariants as entry
+use Rattle.mv_core.specs.declared.entry.Reply.{Reply}
+use Rattle.mv_core.specs.SharedStep.{writes}
+use Rattle.mv_core.specs.Workspace.{Workspace}
+use Rattle.aw_store.specs.Stores.{record_of}
+use Rattle.ses_step.specs.declared.answer.Answer.TheVariants.{Done, Shown, Refused}
+use Rattle.ses_report.specs.declared.refusal.Refusal.{Refusal}
+use Rattle.ses_step.specs.declared.line.Command.{Command}
+use Rattle.ses_step.specs.declared.line.Command.TheVariants as command
+use Rattle.ses_step.specs.declared.session.Begun.{Begun}
+use Rattle.ses_step.specs.declared.session.Begun.TheVariants.{Said, Ask}
+use Rattle.ses_step.specs.declared.session.Session.{Session}
+use Rattle.ses_step.specs.declared.session.View.{View}
+use Rattle.aw_cell.specs.declared.cell.Cell.TheVariants.{Int}
+use Rattle.ses_report.specs.Refusals.{disk_fault, not_attached, already_attached}
+use Rattle.ses_step.specs.Sessions.{begun, located, with_view, updated, commit_asked, is_staged, change_of_view}
+use Rattle.script_meaning.specs.Worlds.{Machine, Turn, replied, turn_from, turn}
+use Rattle.script_meaning.specs.Outcomes.{Outcome, done, faulted, OnDisk, unwritten, written, on_disk, history_machine, by_history}
+
+-- ---- the three turns
+
+module _ {S : Type 0} (disk : OnDisk S) where
+  abbrev pub unwritten_turn : Turn S → Turn (OnDisk S)
+  unwritten_turn t = record { answer = t.answer; session = t.session; shared = record disk { state = t.shared } }
+
+  abbrev pub done_turn : Turn S → Entry → List Outcome → Turn (OnDisk S)
+  done_turn t asked coming = record {
+    answer = t.answer;
+    session = t.session;
+    shared = record { state = t.shared; coming = coming; attempts = disk.attempts ++ (record { attempted = record_of asked; outcome = done }) ∷ [] };
+  }
+
+  abbrev pub faulted_turn : Session → Entry → List Outcome → Turn (OnDisk S)
+  faulted_turn session asked coming = record {
+    answer = Refused disk_fault;
+    session = session;
+    shared = record { state = disk.state; coming = coming; attempts = disk.attempts ++ (record { attempted = record_of asked; outcome = faulted }) ∷ [] };
+  }
+
+module _ {S : Type 0} (machine : Machine S) (all : List Outcome) (definitions names : List (List ℕ)) (disk : OnDisk S) (P : Turn (OnDisk S) → Type 0) where
+  pub turn_from-cases : (b : Begun) (session : Session) →
+      (((asked : Entry) → b ≡ Ask asked → writes asked (machine.step disk.state asked).0 ≡ false) → P (unwritten_turn disk (turn_from machine definitions names disk.state (b, session)))) →
+      ((asked : Entry) (coming : List Outcome) → b ≡ Ask asked → writes asked (machine.step disk.state asked).0 ≡ true → P (done_turn disk (turn_from machine definitions names disk.state (b, session)) asked coming)) →
+      ((asked : Entry) (coming : List Outcome) → b ≡ Ask asked → writes asked (machine.step disk.state asked).0 ≡ true → P (faulted_turn disk session asked coming)) →
+      P (turn_from (on_disk all machine) definitions names disk (b, session))
+  turn_from-cases (Said answer) session unwritten_case done_case faulted_case = unwritten_case (λ asked is. cc)
+  turn_from-cases (Ask asked) session unwritten_case done_case faulted_case = by_test (writes asked r.0) refl
+    where
+      r : Reply × S
+      r = machine.step disk.state asked
+
+      by_coming : writes asked r.0 ≡ true → (coming : List Outcome) → P (replied (on_disk all machine) definitions names session asked (written coming disk (record_of asked) r))
+      by_coming writing [] = done_case asked [] refl writing
+      by_coming writing (done ∷ coming) = done_case asked coming refl writing
+      by_coming writing (faulted ∷ coming) = faulted_case asked coming refl writing
+
+      by_test : (test : Bool) → writes asked r.0 ≡ test → P (replied (on_disk all machine) definitions names session asked (if test then written disk.coming disk (record_of asked) r else unwritten disk r))
+      by_test true writing = by_coming writing disk.coming
+      by_test false not_writing = unwritten_case (λ other is. ap (λ it. writes it (machine.step disk.state it).0) (same_asked other asked is) ∙ not_writing)
+        where
+          same_asked : (other asked : Entry) → Ask asked ≡ Ask other → other ≡ asked
+          same_asked other asked is = cc
+
+-- ---- what a session asks
+
+-- a commit has a change for each staged view
+abbrev pub IsOfViews : Session → Entry → Type 0
+IsOfViews session (entry.Commit who changes) = (views : List View) × (session.views ≡ Some views) × (changes ≡ map change_of_view (filter is_staged views))
+IsOfViews session (entry.Attach who) = Unit {0}
+IsOfViews session (entry.Acquire who object number) = Unit {0}
+
+-- a session that asks is as it was
+abbrev pub IsAskedBy : Session → Begun × Session → Type 0
+IsAskedBy session (Said answer, after) = Unit {0}
+IsAskedBy session (Ask asked, after) = (after ≡ session) × IsOfViews session asked
+
+module _ (definitions : List (List ℕ)) (session : Session) where
+  attach_asked : (views : Option (List View)) → IsAskedBy session (elim views [ None ↦ (Ask (entry.Attach session.who), session) | Some views ↦ (Said (Refused already_attached), session) ])
+  attach_asked None = (refl, tt)
+  attach_asked (Some views) = tt
+
+  acquire_asked : (found : Result View Refusal) → IsAskedBy session (elim found [ Err refusal ↦ (Said (Refused refusal), session) | Ok view ↦ (Ask (entry.Acquire session.who view.object view.number), session) ])
+  acquire_asked (Err refusal) = tt
+  acquire_asked (Ok view) = (refl, tt)
+
+  assign_asked : (value : ℤ) (found : Result View Refusal) → IsAskedBy session (elim found [ Err refusal ↦ (Said (Refused refusal), session) | Ok view ↦ (Said Done, with_view session (record view { private = Int value })) ])
+  assign_asked value (Err refusal) = tt
+  assign_asked value (Ok view) = tt
+
+  update_asked : (views : Option (List View)) → IsAskedBy session (elim views [ None ↦ (Said (Refused not_attached), session) | Some views ↦ (Said Done, record session { views = Some (map updated views) }) ])
+  update_asked None = tt
+  update_asked (Some views) = tt
+
+  commit_asked-views : (views : List View) (changes : List Change) → session.views ≡ Some views → changes ≡ map change_of_view (filter is_staged views) → IsAskedBy session (commit_asked session changes)
+  commit_asked-views views [] attached is = tt
+  commit_asked-views views (change ∷ changes) attached is = (refl, (views, attached, is))
+
+  commits_asked : (views : Option (List View)) → session.views ≡ views → IsAskedBy session (elim views [ None ↦ (Said (Refused not_attached), session) | Some views ↦ commit_asked session (map change_of_view (filter is_staged views)) ])
+  commits_asked None is = tt
+  commits_asked (Some views) is = commit_asked-views views (map change_of_view (filter is_staged views)) is refl
+
+  show_asked : (found : Result View Refusal) → IsAskedBy session (elim found [ Err refusal ↦ (Said (Refused refusal), session) | Ok view ↦ (Said (Shown view.private), session) ])
+  show_asked (Err refusal) = tt
+  show_asked (Ok view) = tt
+
+  pub is_asked_by : (command : Command) → IsAskedBy session (begun definitions session command)
+  is_asked_by command.Attach = attach_asked session.views
+  is_asked_by (command.Acquire name) = acquire_asked (located definitions session name)
+  is_asked_by (command.Assign name value) = assign_asked value (located definitions session name)
+  is_asked_by command.Update = update_asked session.views
+  is_asked_by command.Commit = commits_asked session.views refl
+  is_asked_by (command.Show name) = show_asked (located definitions session name)
+
+  pub asked-same : (command : Command) (asked : Entry) → (begun definitions session command).0 ≡ Ask asked → (begun definitions session command).1 ≡ session
+  asked-same command asked is =
+      let b = begun definitions session command in
+      (subst (λ first. IsAskedBy session (first, b.1)) is (is_asked_by command)).0
+
+  pub asked-of_views : (command : Command) (asked : Entry) → (begun definitions session command).0 ≡ Ask asked → IsOfViews session asked
+  asked-of_views command asked is =
+      let b = begun definitions session command in
+      (subst (λ first. IsAskedBy session (first, b.1)) is (is_asked_by command)).1
+
+-- ---- a command's turn
+
+-- what the session asks, and whether that writes a record
+pub record Writes {S : Type 0} (machine : Machine S) (definitions : List (List ℕ)) (state : S) (session : Session) (command : Command) (asked : Entry) (writing : Bool) : Type 0 where
+  pub asks : (begun definitions session command).0 ≡ Ask asked
+  pub is : writes asked (machine.step state asked).0 ≡ writing
+
+module _ {S : Type 0} (machine : Machine S) (all : List Outcome) (definitions names : List (List ℕ)) (disk : OnDisk S) (session : Session) (command : Command) (P : Turn (OnDisk S) → Type 0) where
+  abbrev plain : Turn S
+  plain = turn machine definitions names disk.state session command
+
+  abbrev WritesSo : Entry → Bool → Type 0
+  WritesSo asked writing = Writes machine definitions disk.state session command asked writing
+
+  pub turn-cases : (((asked : Entry) → (begun definitions session command).0 ≡ Ask asked → WritesSo asked false) → P (unwritten_turn disk plain)) →
+      ((asked : Entry) (coming : List Outcome) → WritesSo asked true → P (done_turn disk plain asked coming)) →
+      ((asked : Entry) (coming : List Outcome) → WritesSo asked true → P (faulted_turn disk session asked coming)) →
+      P (turn (on_disk all machine) definitions names disk session command)
+  turn-cases unwritten_case done_case faulted_case =
+      let b = begun definitions session command in
+      turn_from-cases machine all definitions names disk P b.0 b.1 (λ none. unwritten_case (λ asked is. record { asks = is; is = none asked is })) (λ asked coming is writing. done_case asked coming (record { asks = is; is = writing })) (λ asked coming is writing. subst (λ it. P (faulted_turn disk it asked coming)) (sym (asked-same definitions session command asked is)) (faulted_case asked coming (record { asks = is; is = writing })))
+
+-- ---- the machine over commits and owners
+
+-- a command that isn't COMMIT writes no record
+module _ (coming : List Outcome) (definitions names : List (List ℕ)) (disk : OnDisk (Workspace Change)) (s : Session) where
+  abbrev IsUnwritten : Begun × Session → Type 0
+  IsUnwritten b = turn_from (by_history coming) definitions names disk b ≡ unwritten_turn disk (turn_from history_machine definitions names disk.state b)
+
+  pub attach-unwritten : (views : Option (List View)) → IsUnwritten (elim views [ None ↦ (Ask (entry.Attach s.who), s) | Some views ↦ (Said (Refused already_attached), s) ])
+  attach-unwritten None = refl
+  attach-unwritten (Some views) = refl
+
+  pub acquire-unwritten : (found : Result View Refusal) → IsUnwritten (elim found [ Err refusal ↦ (Said (Refused refusal), s) | Ok view ↦ (Ask (entry.Acquire s.who view.object view.number), s) ])
+  acquire-unwritten (Err refusal) = refl
+  acquire-unwritten (Ok view) = refl
+
+  pub assign-unwritten : (value : ℤ) (found : Result View Refusal) → IsUnwritten (elim found [ Err refusal ↦ (Said (Refused refusal), s) | Ok view ↦ (Said Done, with_view s (record view { private = Int value })) ])
+  assign-unwritten value (Err refusal) = refl
+  assign-unwritten value (Ok view) = refl
+
+  pub update-unwritten : (views : Option (List View)) → IsUnwritten (elim views [ None ↦ (Said (Refused not_attached), s) | Some views ↦ (Said Done, record s { views = Some (map updated views) }) ])
+  update-unwritten None = refl
+  update-unwritten (Some views) = refl
+
+  pub show-unwritten : (found : Result View Refusal) → IsUnwritten (elim found [ Err refusal ↦ (Said (Refused refusal), s) | Ok view ↦ (Said (Shown view.private), s) ])
+  show-unwritten (Err refusal) = refl
+  show-unwritten (Ok view) = refl

@@ -1,0 +1,37 @@
+-- An event leaves each session that it isn't of.
+use Rattle.std.specs.Prelude.{◌≡◌, ◌≢◌, ◌++◌, ℕ, zero, suc, List, [], ◌∷◌, length, nat_lt, Some, slice_get, slice_set, refl}
+use Rattle.std.specs.Option.{ForSome}
+use Rattle.std.proofs.Common.{◌∙◌, ap}
+use Rattle.std.proofs.lemmas.Option.{none-some}
+use Rattle.script_world.specs.Meaning.{Meaning}
+use Rattle.script_world.specs.Worlds.{World, Machine, Event, own_session, session_of, answered}
+use Rattle.script_world.proofs.Moves.{if-holds, Keeps, answered-keeps}
+
+pub slice_get-set_other : {X : Type 0} (xs : List X) (i j : ℕ) (y : X) → j ≢ i → slice_get (slice_set xs i y) j ≡ slice_get xs j
+slice_get-set_other [] i j y differs = refl
+slice_get-set_other (x ∷ xs) zero zero y differs = absurd (differs refl)
+slice_get-set_other (x ∷ xs) zero (suc j) y differs = refl
+slice_get-set_other (x ∷ xs) (suc i) zero y differs = refl
+slice_get-set_other (x ∷ xs) (suc i) (suc j) y differs = slice_get-set_other xs i j y (λ same. differs (ap suc same))
+
+pub slice_get-append : {X : Type 0} (xs ys : List X) (j : ℕ) (z : X) → slice_get xs j ≡ Some z → slice_get (xs ++ ys) j ≡ Some z
+slice_get-append [] ys j z is = absurd (none-some z is)
+slice_get-append (x ∷ xs) ys zero z is = is
+slice_get-append (x ∷ xs) ys (suc j) z is = slice_get-append xs ys j z is
+
+module _ {m : Meaning} {S : Type 0} (machine : Machine m S) (who : ℕ) (session : m.Session) where
+  abbrev Holds : World m S → Type 0
+  Holds w = slice_get w.sessions who ≡ Some session
+
+  keeps : Keeps machine Holds (λ other statement. who ≢ other)
+  keeps = record {
+    lines = λ w lines it. it;
+    defines = λ w lines definitions none is it. it;
+    closes = λ w none it. it;
+    appears = λ w name shared is it. if-holds (λ (sessions : List m.Session). slice_get sessions who ≡ Some session) (nat_lt (length w.names) 64) (w.sessions ++ m.new_session (length w.names) ∷ []) w.sessions (slice_get-append w.sessions (m.new_session (length w.names) ∷ []) who session it) it;
+    begins = λ w other shared statement answer session differs may is it. slice_get-set_other w.sessions other who session differs ∙ it;
+    steps = λ w other shared statement entry waiting differs may is it. slice_get-set_other w.sessions other who _ differs ∙ it;
+  }
+
+  pub keeps_others : (w : World m S) (event : Event) → ForSome (session_of w event) (λ own. who ≢ own.0) → slice_get w.sessions who ≡ Some session → slice_get (answered machine w event).world.sessions who ≡ Some session
+  keeps_others w event differs it = answered-keeps machine Holds (λ other statement. who ≢ other) keeps w event differs it
