@@ -28,24 +28,7 @@ attempts_ended attempted (outcome ∷ outcomes) = (record { attempted = attempte
 abbrev pub act_attempts : Entry → Reply → List (Attempt Decoded)
 act_attempts entry reply = attempts_ended (record_of entry) (outcomes_told entry reply)
 
--- the same of the definitions
-abbrev pub define_outcomes : Result (Unit {0}) StoreFault → List Outcome
-define_outcomes (Ok nothing) = done ∷ []
-define_outcomes (Err DiskFault) = faulted ∷ []
-define_outcomes (Err Defined) = []
-define_outcomes (Err NoMemory) = []
-
-abbrev pub define_attempts : List (List ℕ) → Result (Unit {0}) StoreFault → List (Attempt Decoded)
-define_attempts names result = attempts_ended (Definitions names) (define_outcomes result)
-
 -- the moment at which each of these attempts ended
 abbrev pub ends_at : ℕ → List (Attempt Decoded) → List ℕ
 ends_at moment [] = []
 ends_at moment (attempt ∷ made) = moment ∷ ends_at moment made
-
--- what a store says of its definitions, and what that left
-abbrev pub Defines : {D : Type 0} → List (List ℕ) → Result (Unit {0}) StoreFault → StoreState D → StoreState D → Type 0
-Defines names (Ok nothing) old new = Writes (Definitions names) old new
-Defines names (Err DiskFault) old new = Doubts (Definitions names) old new
-Defines names (Err Defined) old new = new ≡ old
-Defines names (Err NoMemory) old new = new ≡ old

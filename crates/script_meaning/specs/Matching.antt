@@ -10,6 +10,7 @@ use Rattle.aw_store.specs.Images.{AreRecords}
 use Rattle.script_world.specs.Worlds.{Event, script_ends}
 use Rattle.script_world.specs.Outcomes.{Outcome}
 use Rattle.script_world.specs.Left.{settled_records}
+use Rattle.script_meaning.specs.Language.{HistoryDisk}
 use Rattle.script_meaning.specs.Transcript.{world_at, attempts}
 
 -- a store opens with these records
@@ -34,3 +35,7 @@ abbrev pub EndMatches : List (List ℕ) → List Decoded → List Outcome → Li
 EndMatches names records coming events =
     let all = events ++ script_ends ∷ [] in
     unwrap_or (names_of (settled_records records (attempts names records coming all))) [] ≡ (world_at names records coming all).definitions
+
+-- the commits and the owners are the same
+abbrev pub SameState : HistoryDisk → HistoryDisk → Type 0
+SameState before after = after.state ≡ before.state

@@ -4,6 +4,7 @@ use Rattle.std.specs.Option.{option_map}
 use Rattle.std.proofs.Common.{◌∙◌, ap, sym}
 use Rattle.ses_report.specs.declared.refusal.Refusal.{Refusal}
 use Rattle.script_world.specs.Meaning.{Begun, said, ask, Form, nothing, malformed, joins, ends, under, Meaning}
+use Rattle.script_world.specs.Outcomes.{Outcome, done, faulted, Writing, OnDisk, written, on_disk}
 use Rattle.script_world.specs.Worlds.{World, with_shared, Machine, Event, line, block_ends, script_ends, Answered, Planned, answers, asks, silent, refused_so, crowded_out, defined_so, defined_before, defined, session_place, with_name, with_session, own_session, begun_so, commanded, shared_of, closed, session_planned, form_planned, block_ended, planned, turned, settled, answered, text_of, any_refused, is_refused, world_after}
 
 if-map : {A B : Type 0} (g : A → B) (test : Bool) (yes_case no_case : A) → (if test then g yes_case else g no_case) ≡ g (if test then yes_case else no_case)
@@ -112,35 +113,22 @@ module _ {m : Meaning} {S T : Type 0} (coarse : Machine m S) (fine : Machine m T
         world = ap (λ b. world_after coarse b.world events) first ∙ rest.world;
       }
 
--- ---- two machines that a relation ties
+-- ---- on a disk
 
-module _ {m : Meaning} {S T : Type 0} (left : Machine m S) (right : Machine m T) (R : S → T → Type 0) where
-  pub record Tied : Type 0 where
-    pub one : S
-    pub other : T
-    pub related : R one other
+-- the state of a machine by another one
+abbrev pub with_state : {R S T : Type 0} → (T → S) → OnDisk R T → OnDisk R S
+with_state f disk = record { state = f disk.state; opened = disk.opened; tried = disk.tried }
 
-  pub record StepsTied (one : S) (other : T) (entry : m.Entry) : Type 0 where
-    pub reply : (right.step other entry).0 ≡ (left.step one entry).0
-    pub related : R (left.step one entry).1 (right.step other entry).1
+module _ {m : Meaning} {R S T : Type 0} (f : T → S) (writing : Writing m R) where
+  written-with_state : (outcome : Outcome) (disk : OnDisk R T) (r : m.Reply × T) (attempted : Option R) → written writing outcome (with_state f disk) (r.0, f r.1) attempted ≡ ((written writing outcome disk r attempted).0, with_state f (written writing outcome disk r attempted).1)
+  written-with_state outcome disk r None = refl
+  written-with_state done disk r (Some attempted) = refl
+  written-with_state faulted disk r (Some attempted) = refl
 
-  module _ (opens : (definitions : m.Definitions) → R (left.opens definitions) (right.opens definitions)) (steps : (one : S) (other : T) (entry : m.Entry) → R one other → StepsTied one other entry) where
-    abbrev both : Machine m Tied
-    both = record {
-      opens = λ definitions. record { one = left.opens definitions; other = right.opens definitions; related = opens definitions };
-      step = λ t entry. ((left.step t.one entry).0, record { one = (left.step t.one entry).1; other = (right.step t.other entry).1; related = (steps t.one t.other entry t.related).related });
-    }
-
-    left_alike : MachinesAlike left both (λ (t : Tied). t.one)
-    left_alike = record { opens = λ definitions. refl; step = λ t entry. refl }
-
-    right_alike : MachinesAlike right both (λ (t : Tied). t.other)
-    right_alike = record {
-      opens = λ definitions. refl;
-      step = λ t entry. ap (λ reply. let it : m.Reply × T = (reply, (right.step t.other entry).1) in it) (steps t.one t.other entry t.related).reply;
-    }
-
-    pub same_text : (w : World m Tied) (events : List Event) → text_of right (with_shared (λ (t : Tied). t.other) w) events ≡ text_of left (with_shared (λ (t : Tied). t.one) w) events
-    same_text w events =
-        (events_alike right both (λ (t : Tied). t.other) right_alike w events).text
-        ∙ sym (events_alike left both (λ (t : Tied). t.one) left_alike w events).text
+  pub disks_alike : (next : ℕ → Outcome) (coarse : Machine m S) (fine : Machine m T) → MachinesAlike coarse fine f → MachinesAlike (on_disk writing next coarse) (on_disk writing next fine) (with_state f)
+  disks_alike next coarse fine alike = record {
+    opens = λ definitions. ap (λ state. let it : OnDisk R S = record { state = state; opened = Some (writing.of_definitions definitions); tried = [] } in it) (alike.opens definitions);
+    step = λ disk entry.
+        let r = fine.step disk.state entry in
+        ap (λ (given : m.Reply × S). written writing (next (length disk.tried)) (with_state f disk) given (writing.of_step entry given.0)) (alike.step disk.state entry) ∙ written-with_state (next (length disk.tried)) disk r (writing.of_step entry r.0);
+  }

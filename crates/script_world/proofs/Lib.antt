@@ -13,3 +13,4 @@ pub mod Refusals
 pub mod Faults
 pub mod Walk
 pub mod Turns
+pub mod Acknowledged

@@ -5,6 +5,7 @@ use Rattle.std.proofs.Common.{◌∙◌, ap}
 use Rattle.std.proofs.lemmas.Option.{none-some}
 use Rattle.script_world.specs.Meaning.{Meaning}
 use Rattle.script_world.specs.Worlds.{World, Machine, Event, own_session, session_of, answered}
+use Rattle.script_world.specs.Laws.{KeepsOthers}
 use Rattle.script_world.proofs.Moves.{if-holds, Keeps, answered-keeps}
 
 pub slice_get-set_other : {X : Type 0} (xs : List X) (i j : ℕ) (y : X) → j ≢ i → slice_get (slice_set xs i y) j ≡ slice_get xs j
@@ -33,5 +34,8 @@ module _ {m : Meaning} {S : Type 0} (machine : Machine m S) (who : ℕ) (session
     steps = λ w other shared statement entry waiting differs may is it. slice_get-set_other w.sessions other who _ differs ∙ it;
   }
 
-  pub keeps_others : (w : World m S) (event : Event) → ForSome (session_of w event) (λ own. who ≢ own.0) → slice_get w.sessions who ≡ Some session → slice_get (answered machine w event).world.sessions who ≡ Some session
-  keeps_others w event differs it = answered-keeps machine Holds (λ other statement. who ≢ other) keeps w event differs it
+  own_kept : (w : World m S) (event : Event) → ForSome (session_of w event) (λ own. who ≢ own.0) → slice_get w.sessions who ≡ Some session → slice_get (answered machine w event).world.sessions who ≡ Some session
+  own_kept w event differs it = answered-keeps machine Holds (λ other statement. who ≢ other) keeps w event differs it
+
+pub keeps_others : {m : Meaning} {S : Type 0} (machine : Machine m S) (w : World m S) (event : Event) → KeepsOthers machine w event
+keeps_others machine w event who session differs it = own_kept machine who session w event differs it

@@ -7,6 +7,7 @@ use Rattle.std.proofs.lemmas.Option.{same_Some}
 use Rattle.ses_report.specs.Reports.{Answer}
 use Rattle.script_world.specs.Meaning.{Begun, said, ask, Meaning}
 use Rattle.script_world.specs.Worlds.{World, Machine, Event, Answered, with_own, own_session, begun_so, commanded, shared_of, settled, answered, is_refused}
+use Rattle.script_world.specs.Laws.{ChangesNothing, RefusalChangesNothing}
 use Rattle.script_world.proofs.Walk.{Rests, walk}
 use Rattle.script_world.proofs.Others.{slice_get-append}
 
@@ -19,13 +20,6 @@ slice_get-set_held (z ∷ xs) (suc i) d x y zero held is = is
 slice_get-set_held (z ∷ xs) (suc i) d x y (suc j) held is = slice_get-set_held xs i d x y j held is
 
 module _ {m : Meaning} {S : Type 0} (Same : S → S → Type 0) where
-  -- the definitions and what each session holds are as before, and the shared state is the same; sessions may be new, and
-  -- the definitions closed
-  pub record ChangesNothing (before after : World m S) : Type 0 where
-    pub definitions : after.definitions ≡ before.definitions
-    pub shared : ForSome before.shared (λ old. (new : S) × (after.shared ≡ Some new) × Same old new)
-    pub sessions : (who : ℕ) → ForSome (slice_get before.sessions who) (λ session. slice_get after.sessions who ≡ Some session)
-
   module _ (machine : Machine m S) where
     -- a session's refusal changes neither the session nor the shared state
     pub record Mild : Type 0 where
@@ -38,7 +32,7 @@ module _ {m : Meaning} {S : Type 0} (Same : S → S → Type 0) where
 
     module _ (mild : Mild) where
       abbrev Quiet : World m S → Answered m S → Type 0
-      Quiet w a = is_refused a.answer ≡ true → ChangesNothing w a.world
+      Quiet w a = is_refused a.answer ≡ true → ChangesNothing Same w a.world
 
       -- as before, but for new sessions and closed definitions
       record Passed (before after : World m S) : Type 0 where
@@ -46,7 +40,7 @@ module _ {m : Meaning} {S : Type 0} (Same : S → S → Type 0) where
         shared : ForSome before.shared (λ old. after.shared ≡ Some old)
         sessions : (who : ℕ) → ForSome (slice_get before.sessions who) (λ session. slice_get after.sessions who ≡ Some session)
 
-      passed : (before after : World m S) → Passed before after → ChangesNothing before after
+      passed : (before after : World m S) → Passed before after → ChangesNothing Same before after
       passed before after it = record { definitions = it.definitions; shared = λ old is. (old, it.shared old is, mild.same old); sessions = it.sessions }
 
       own-sessions : (before w : World m S) (who : ℕ) (s : m.Session) → Passed before w → s ≡ own_session w who → (other : ℕ) → ForSome (slice_get before.sessions other) (λ session. slice_get (slice_set w.sessions who s) other ≡ Some session)
@@ -71,7 +65,7 @@ module _ {m : Meaning} {S : Type 0} (Same : S → S → Type 0) where
                 sessions = own-sessions before w who (m.finish w.definitions w.names waiting r.0).1 it kept.0;
               }
 
-      pub refusal_changes_nothing : (w : World m S) (event : Event) → is_refused (answered machine w event).answer ≡ true → ChangesNothing w (answered machine w event).world
+      pub refusal_changes_nothing : (w : World m S) (event : Event) → RefusalChangesNothing Same machine w event
       refusal_changes_nothing w event = walk machine w event (Quiet w) (record {
         passes = λ after rests refused. absurd (true≢false (sym refused));
         defines = λ lines definitions none is refused. absurd (true≢false (sym refused));

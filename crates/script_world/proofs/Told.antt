@@ -4,7 +4,7 @@ use Rattle.std.proofs.Common.{◌∙◌, ap, ap₂, sym, subst, arith, length-ap
 use Rattle.script_world.specs.Meaning.{Meaning}
 use Rattle.script_world.specs.Worlds.{World, Machine, Event, Planned, answers, asks, turned, planned, settled, answered, text_of, any_refused, is_refused, world_after}
 use Rattle.script_world.specs.Outcomes.{Outcome, done, faulted, Writing, OnDisk, ended_so, written, on_disk, among, by_list, used, opening}
-use Rattle.script_world.specs.Laws.{SameOf}
+use Rattle.script_world.specs.Laws.{SameOf, GoesOn}
 use Rattle.script_world.proofs.Moves.{Keeps, lifts, AsksWith, asks_with}
 use Rattle.script_world.proofs.Appending.{text_of-append, any_refused-append, world_after-append}
 
@@ -99,12 +99,7 @@ module _ {m : Meaning} {R S : Type 0} (writing : Writing m R) (machine : Machine
       told_once writing machine (among coming) (among (coming ++ more)) (length coming) (among-append coming more) w events few
 
   -- one more event, whose step used the outcomes that are new
-  pub record GoesOn (w : World m (OnDisk R S)) (coming new : List Outcome) (events : List Event) (event : Event) : Type 0 where
-    pub text : text_of (with_list (coming ++ new)) w (events ++ event ∷ []) ≡ text_of (with_list coming) w events ++ (answered (with_list (coming ++ new)) (world_after (with_list coming) w events) event).text
-    pub refused : any_refused (with_list (coming ++ new)) w (events ++ event ∷ []) ≡ (any_refused (with_list coming) w events || is_refused (answered (with_list (coming ++ new)) (world_after (with_list coming) w events) event).answer)
-    pub world : world_after (with_list (coming ++ new)) w (events ++ event ∷ []) ≡ (answered (with_list (coming ++ new)) (world_after (with_list coming) w events) event).world
-
-  pub goes_on : (w : World m (OnDisk R S)) (coming new : List Outcome) (events : List Event) (event : Event) → used (world_after (with_list coming) w events).shared ≤ length coming → GoesOn w coming new events event
+  pub goes_on : (w : World m (OnDisk R S)) (coming new : List Outcome) (events : List Event) (event : Event) → used (world_after (with_list coming) w events).shared ≤ length coming → GoesOn writing machine w coming new events event
   goes_on w coming new events event few =
       let told = list_told_once w coming new events few in
       let all = with_list (coming ++ new) in

@@ -4,3 +4,4 @@ pub mod Worlds
 pub mod Outcomes
 pub mod Left
 pub mod Laws
+pub mod Faults

@@ -55,9 +55,13 @@ by_list writing machine coming = on_disk writing (among coming) machine
 abbrev pub as_done : {R : Type 0} → R → Attempt R
 as_done attempted = record { attempted = attempted; outcome = done }
 
+-- that of the definitions first
+abbrev pub all_attempts : {R : Type 0} → Option R → List (Attempt R) → List (Attempt R)
+all_attempts opened tried = map as_done (option_to_list opened) ++ tried
+
 abbrev pub attempts_of : {R S : Type 0} → Option (OnDisk R S) → List (Attempt R)
 attempts_of None = []
-attempts_of (Some disk) = map as_done (option_to_list disk.opened) ++ disk.tried
+attempts_of (Some disk) = all_attempts disk.opened disk.tried
 
 -- how many outcomes were used
 abbrev pub used : {R S : Type 0} → Option (OnDisk R S) → ℕ
