@@ -24,17 +24,19 @@ use Rattle.ses_step.specs.declared.session.View.{View}
 use Rattle.ses_step.specs.Words.{place_of}
 use Rattle.ses_report.specs.Refusals.{no_form, not_attached}
 use Rattle.ses_step.specs.Sessions.{finished}
-use Rattle.script_meaning.specs.Worlds.{World, turn_from, turn}
-use Rattle.script_meaning.specs.Outcomes.{Outcome, OnDisk, by_history}
+use Rattle.script_world.specs.Worlds.{Event}
+use Rattle.script_meaning.specs.Turns.{turn_from, turn}
+use Rattle.script_world.specs.Outcomes.{Outcome}
+use Rattle.script_meaning.specs.Language.{by_history, HistoryDisk, HistoryWorld}
 use Rattle.script_meaning.specs.Transcript.{world_at}
 use Rattle.script_meaning.specs.Fit.{ViewsFit, SharedFits}
 use Rattle.script_meaning.specs.Matching.{CanBeOpened}
 use Rattle.script_meaning.specs.Acquiring.{AnswersAcquire, AcquiresAreAnswered}
 use Rattle.script_meaning.proofs.FittingSessions.{slice_get-standing}
-use Rattle.script_meaning.proofs.Opening.{fits_at, found_at_number}
+use Rattle.script_meaning.proofs.Reached.{fits_at, found_at_number}
 use Rattle.script_meaning.proofs.Reading.{place_of-within}
 
-module _ (coming : List Outcome) (definitions names : List (List ℕ)) (sessions : List Session) (disk : OnDisk (Workspace Change)) (s : Session) (fits : SharedFits definitions sessions disk.state) (own_place : slice_get sessions s.who ≡ Some s) (views : List View) (attached : s.views ≡ Some views) where
+module _ (coming : List Outcome) (definitions names : List (List ℕ)) (sessions : List Session) (disk : HistoryDisk) (s : Session) (fits : SharedFits definitions sessions disk.state) (own_place : slice_get sessions s.who ≡ Some s) (views : List View) (attached : s.views ≡ Some views) where
   views_fit : ViewsFit disk.state s.who views
   views_fit = (fits.each s.who s own_place).views views attached
 
@@ -84,10 +86,10 @@ module _ (coming : List Outcome) (definitions names : List (List ℕ)) (sessions
 
 -- ---- after any lines
 
-module _ (records : List Decoded) (coming : List Outcome) (lines : List (List ℕ)) (can : CanBeOpened records) where
-  abbrev reached : World (OnDisk (Workspace Change))
-  reached = world_at records coming lines
+module _ (names : List (List ℕ)) (records : List Decoded) (coming : List Outcome) (events : List Event) (can : CanBeOpened records) where
+  abbrev reached : HistoryWorld
+  reached = world_at names records coming events
 
-  pub acquires_are_answered : AcquiresAreAnswered coming (world_at records coming lines)
+  pub acquires_are_answered : AcquiresAreAnswered coming (world_at names records coming events)
   acquires_are_answered disk who session views is found attached =
-      acquire_answered coming reached.definitions reached.names reached.sessions disk session (fits_at records coming lines can disk is) (found_at_number records coming lines can disk who session is found) views attached
+      acquire_answered coming reached.definitions reached.names reached.sessions disk session (fits_at names records coming events can disk is) (found_at_number names records coming events can disk who session is found) views attached

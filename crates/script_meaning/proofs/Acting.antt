@@ -1,5 +1,5 @@
 -- What the calls of a store do, as steps of the machine on a disk, and as attempts of a run.
-use Rattle.std.specs.Prelude.{◌≡◌, ◌≢◌, ◌⊎◌, ◌++◌, ℕ, Bool, true, false, List, [], ◌∷◌, Option, Result, Ok, Err, if◌then◌else◌, refl}
+use Rattle.std.specs.Prelude.{◌≡◌, ◌≢◌, ◌⊎◌, ◌++◌, ℕ, Bool, true, false, List, [], ◌∷◌, length, Option, Some, None, if◌then◌else◌, refl}
 use Rattle.std.proofs.Common.{◌∙◌, ap, ap₂, sym, subst, subst₂, ⊎_elim, append_assoc, append-nil}
 use Rattle.std.proofs.lemmas.Option.{none-some, same_Some}
 use Rattle.aw_cell.specs.declared.cell.Cell.{Cell}
@@ -12,16 +12,17 @@ use Rattle.mv_core.specs.declared.entry.Reply.{Reply}
 use Rattle.mv_core.specs.declared.entry.Reply.TheVariants.{Attached, Acquired, Committed, Owned, Newer, Stranger, Worn, Fault, NoMemory}
 use Rattle.mv_core.specs.declared.object.Object.{Object}
 use Rattle.mv_core.specs.SharedStep.{objects_after, objects_step, writes}
-use Rattle.aw_store.specs.declared.store.StoreFault.{StoreFault}
-use Rattle.aw_store.specs.declared.store.StoreFault.TheVariants as store
 use Rattle.aw_store.specs.Images.{HoldsRecords, LeftRecords}
 use Rattle.aw_store.specs.Stores.{StoreState, record_of, Doubts, Writes, Answers, Faults, Acts}
-use Rattle.script_meaning.specs.Outcomes.{Outcome, done, faulted, Attempt, OnDisk, unwritten, written, by_objects}
-use Rattle.script_meaning.specs.Left.{done_records, IsInDoubt}
-use Rattle.script_meaning.specs.Matching.{settled}
-use Rattle.script_meaning.specs.Acting.{done_where, outcomes_told, attempts_ended, act_attempts, define_attempts, ends_at, Defines}
+use Rattle.script_world.specs.Outcomes.{Outcome, done, faulted, Attempt, written, on_disk}
+use Rattle.script_world.specs.Left.{done_records, settled_records, IsInDoubt}
+use Rattle.script_world.proofs.Forks.{done_records-append}
+use Rattle.script_world.specs.Running.{Tells}
+use Rattle.script_meaning.specs.Language.{store_writing, objects_machine, ObjectsDisk}
+use Rattle.script_meaning.specs.SameRecords.{SameRecords}
+use Rattle.script_meaning.specs.StoreRuns.{store_disk}
+use Rattle.script_meaning.specs.Acting.{done_where, outcomes_told, attempts_ended, act_attempts, ends_at}
 use Rattle.script_meaning.specs.Faring.{Fares, StoreFares}
-use Rattle.script_meaning.proofs.Recording.{done_records-append}
 use Rattle.script_meaning.proofs.Faring.{fares_attempt}
 
 want-unwritten : (asked : Entry) → writes asked NoMemory ≡ false
@@ -32,41 +33,46 @@ want-unwritten (Commit who (c ∷ changes)) = refl
 
 -- ---- an act is a step
 
-module _ {D : Type 0} (all rest : List Outcome) (made : List Attempt) (asked : Entry) (old new : StoreState D) where
-  -- the state on a disk that stands for the store, with these outcomes to come
-  abbrev before : List Outcome → OnDisk (List (Object Cell))
-  before coming = record { state = old.objects; coming = coming; attempts = made }
+module _ {D : Type 0} (next : ℕ → Outcome) (opened : Option Decoded) (tried : List (Attempt Decoded)) (asked : Entry) (old new : StoreState D) where
+  -- the state on a disk that stands for the store
+  abbrev before : ObjectsDisk
+  before = store_disk opened tried old
 
   -- the same for the store after the act
-  abbrev after : List Attempt → OnDisk (List (Object Cell))
-  after more = record { state = new.objects; coming = rest; attempts = made ++ more }
+  abbrev after : List (Attempt Decoded) → ObjectsDisk
+  after more = store_disk opened (tried ++ more) new
 
-  -- the step takes the outcomes that the reply tells
+  -- the step has the outcomes that the reply tells
   abbrev pub StepsSo : Reply → Type 0
-  StepsSo reply = (by_objects all).step (before (outcomes_told asked reply ++ rest)) asked ≡ (reply, after (act_attempts asked reply))
+  StepsSo reply =
+      Tells next (length tried) (outcomes_told asked reply) → (on_disk store_writing next objects_machine).step before asked ≡ (reply, after (act_attempts asked reply))
+
+  abbrev ends : Outcome → Bool → Reply × List (Object Cell) → Reply × ObjectsDisk
+  ends outcome writing r = written store_writing outcome before r (if writing then Some (record_of asked) else None)
 
   fault-steps : Faults asked old new → StepsSo Fault
-  fault-steps it =
-      ap (λ writing. if writing then written (faulted ∷ rest) (before (faulted ∷ rest)) (record_of asked) (objects_step old.objects asked) else unwritten (before (faulted ∷ rest)) (objects_step old.objects asked)) it.granted
-      ∙ ap (λ objects. let it : Reply × OnDisk (List (Object Cell)) = (Fault, record { state = objects; coming = rest; attempts = made ++ (record { attempted = record_of asked; outcome = faulted }) ∷ [] }) in it) (sym it.doubts.objects)
+  fault-steps it told =
+      ap (λ writing. ends (next (length tried)) writing (objects_step old.objects asked)) it.granted ∙ ap (λ outcome. ends outcome true (objects_step old.objects asked)) told.0
+      ∙ ap (λ objects. let it : Reply × ObjectsDisk = (Fault, record { state = objects; opened = opened; tried = tried ++ (record { attempted = record_of asked; outcome = faulted }) ∷ [] }) in it) (sym it.doubts.objects)
 
   answer-steps : (reply : Reply) → outcomes_told asked reply ≡ done_where (writes asked reply) → Answers asked reply old new → StepsSo reply
   answer-steps reply told it =
-      subst (λ outcomes. (by_objects all).step (before (outcomes ++ rest)) asked ≡ (reply, after (attempts_ended (record_of asked) outcomes))) (sym told) (by_test (writes asked reply) refl)
+      subst (λ outcomes. Tells next (length tried) outcomes → (on_disk store_writing next objects_machine).step before asked ≡ (reply, after (attempts_ended (record_of asked) outcomes))) (sym told) (by_test (writes asked reply) refl)
     where
-      stepped : List Outcome → Reply → Reply × OnDisk (List (Object Cell))
-      stepped coming given =
-          if writes asked given then written coming (before coming) (record_of asked) (given, objects_after old.objects asked given) else unwritten (before coming) (given, objects_after old.objects asked given)
+      given : (on_disk store_writing next objects_machine).step before asked ≡ ends (next (length tried)) (writes asked reply) (reply, objects_after old.objects asked reply)
+      given =
+          ap (λ reply. ends (next (length tried)) (writes asked reply) (reply, objects_after old.objects asked reply)) (sym it.reply_is)
 
-      by_test : (writing : Bool) → writes asked reply ≡ writing → (by_objects all).step (before (done_where writing ++ rest)) asked ≡ (reply, after (attempts_ended (record_of asked) (done_where writing)))
-      by_test true is =
-          ap (stepped (done ∷ rest)) (sym it.reply_is)
-          ∙ ap (λ writing. if writing then written (done ∷ rest) (before (done ∷ rest)) (record_of asked) (reply, objects_after old.objects asked reply) else unwritten (before (done ∷ rest)) (reply, objects_after old.objects asked reply)) is
-          ∙ ap (λ objects. let it : Reply × OnDisk (List (Object Cell)) = (reply, record { state = objects; coming = rest; attempts = made ++ (record { attempted = record_of asked; outcome = done }) ∷ [] }) in it) (sym it.objects)
-      by_test false is =
-          ap (stepped rest) (sym it.reply_is)
-          ∙ ap (λ writing. if writing then written rest (before rest) (record_of asked) (reply, objects_after old.objects asked reply) else unwritten (before rest) (reply, objects_after old.objects asked reply)) is
-          ∙ ap₂ (λ (objects : List (Object Cell)) (those : List Attempt). let it : Reply × OnDisk (List (Object Cell)) = (reply, record { state = objects; coming = rest; attempts = those }) in it) (sym it.objects) (sym (append-nil made))
+      by_test : (writing : Bool) → writes asked reply ≡ writing → Tells next (length tried) (done_where writing) → (on_disk store_writing next objects_machine).step before asked ≡ (reply, after (attempts_ended (record_of asked) (done_where writing)))
+      by_test true is tells =
+          given
+          ∙ ap (λ writing. ends (next (length tried)) writing (reply, objects_after old.objects asked reply)) is
+          ∙ ap (λ outcome. ends outcome true (reply, objects_after old.objects asked reply)) tells.0
+          ∙ ap (λ objects. let it : Reply × ObjectsDisk = (reply, record { state = objects; opened = opened; tried = tried ++ (record { attempted = record_of asked; outcome = done }) ∷ [] }) in it) (sym it.objects)
+      by_test false is tells =
+          given
+          ∙ ap (λ writing. ends (next (length tried)) writing (reply, objects_after old.objects asked reply)) is
+          ∙ ap₂ (λ (objects : List (Object Cell)) (those : List (Attempt Decoded)). let it : Reply × ObjectsDisk = (reply, record { state = objects; opened = opened; tried = those }) in it) (sym it.objects) (sym (append-nil tried))
 
   -- an act that doesn't want memory is a step of the machine
   pub act_steps : (reply : Reply) → reply ≢ NoMemory → Acts asked reply old new → StepsSo reply
@@ -83,10 +89,10 @@ module _ {D : Type 0} (all rest : List Outcome) (made : List Attempt) (asked : E
 -- ---- what is in doubt
 
 -- a record in doubt stays so when another attempt faults
-doubt-later : (made : List Attempt) (attempted doubt : Decoded) → IsInDoubt made doubt → IsInDoubt (made ++ (record { attempted = attempted; outcome = faulted }) ∷ []) doubt
+doubt-later : (made : List (Attempt Decoded)) (attempted doubt : Decoded) → IsInDoubt made doubt → IsInDoubt (made ++ (record { attempted = attempted; outcome = faulted }) ∷ []) doubt
 doubt-later made attempted doubt it =
-    let last : Attempt = record { attempted = attempted; outcome = faulted } in
-    let first : Attempt = record { attempted = doubt; outcome = faulted } in
+    let last : Attempt Decoded = record { attempted = attempted; outcome = faulted } in
+    let first : Attempt Decoded = record { attempted = doubt; outcome = faulted } in
     record {
       before = it.before;
       after = it.after ++ last ∷ [];
@@ -94,34 +100,34 @@ doubt-later made attempted doubt it =
       none_done = done_records-append it.after (last ∷ []) ∙ append-nil (done_records it.after) ∙ it.none_done;
     }
 
-doubt-last : (made : List Attempt) (attempted : Decoded) → IsInDoubt (made ++ (record { attempted = attempted; outcome = faulted }) ∷ []) attempted
+doubt-last : (made : List (Attempt Decoded)) (attempted : Decoded) → IsInDoubt (made ++ (record { attempted = attempted; outcome = faulted }) ∷ []) attempted
 doubt-last made attempted = record { before = made; after = []; split = refl; none_done = refl }
 
-settled-done : (opened : List Decoded) (made : List Attempt) (attempted : Decoded) → settled opened made ++ attempted ∷ [] ≡ settled opened (made ++ (record { attempted = attempted; outcome = done }) ∷ [])
+settled-done : (opened : List Decoded) (made : List (Attempt Decoded)) (attempted : Decoded) → settled_records opened made ++ attempted ∷ [] ≡ settled_records opened (made ++ (record { attempted = attempted; outcome = done }) ∷ [])
 settled-done opened made attempted =
-    let last : Attempt = record { attempted = attempted; outcome = done } in
+    let last : Attempt Decoded = record { attempted = attempted; outcome = done } in
     append_assoc opened (done_records made) (attempted ∷ []) ∙ ap (λ those. opened ++ those) (sym (done_records-append made (last ∷ [])))
 
-settled-faulted : (opened : List Decoded) (made : List Attempt) (attempted : Decoded) → settled opened made ≡ settled opened (made ++ (record { attempted = attempted; outcome = faulted }) ∷ [])
+settled-faulted : (opened : List Decoded) (made : List (Attempt Decoded)) (attempted : Decoded) → settled_records opened made ≡ settled_records opened (made ++ (record { attempted = attempted; outcome = faulted }) ∷ [])
 settled-faulted opened made attempted =
-    let last : Attempt = record { attempted = attempted; outcome = faulted } in
+    let last : Attempt Decoded = record { attempted = attempted; outcome = faulted } in
     ap (λ those. opened ++ those) (sym (append-nil (done_records made)) ∙ sym (done_records-append made (last ∷ [])))
 
 -- ---- the calls of a store, as attempts of a run
 
-module _ {D : Type 0} (clock : D → ℕ) (crash : D → ℕ → List ℕ → Type 0) (opened : List Decoded) (made : List Attempt) (ends : List ℕ) (start : ℕ) (old new : StoreState D) (fares : StoreFares clock crash opened made ends start old) where
+module _ {D : Type 0} (clock : D → ℕ) (crash : D → ℕ → List ℕ → Type 0) (opened : List Decoded) (made : List (Attempt Decoded)) (ends : List ℕ) (start : ℕ) (old new : StoreState D) (fares : StoreFares SameRecords clock crash opened made ends start old) where
   -- the moments of a call that was to write this record, and what a crash may leave after it
   pub record CallPasses (attempted : Decoded) : Type 0 where
     pub moments : Passed (clock old.disk) (clock new.disk) (crash old.disk) (crash new.disk) (λ image. LeftRecords old.records old.doubt image ⊎ HoldsRecords image (old.records ++ attempted ∷ []))
     pub images : (image : List ℕ) → crash new.disk (clock new.disk) image → LeftRecords new.records new.doubt image
 
   -- the store after these attempts
-  abbrev pub GoesOnWith : List Attempt → Type 0
-  GoesOnWith more = StoreFares clock crash opened (made ++ more) (ends ++ ends_at (clock new.disk) more) start new
+  abbrev pub GoesOnWith : List (Attempt Decoded) → Type 0
+  GoesOnWith more = StoreFares SameRecords clock crash opened (made ++ more) (ends ++ ends_at (clock new.disk) more) start new
 
   pub fares_done : (attempted : Decoded) → CallPasses attempted → Writes attempted old new → GoesOnWith ((record { attempted = attempted; outcome = done }) ∷ [])
   fares_done attempted call writes =
-      let attempt : Attempt = record { attempted = attempted; outcome = done } in
+      let attempt : Attempt Decoded = record { attempted = attempted; outcome = done } in
       fares_attempt opened made ends start (clock old.disk) (clock new.disk) (crash old.disk) (crash new.disk) old.records new.records old.doubt new.doubt attempt fares call.moments (record {
         are_settled = writes.records ∙ ap (λ those. those ++ attempted ∷ []) fares.are_settled ∙ settled-done opened made attempted;
         in_doubt = λ r is. absurd (none-some r (sym writes.doubt ∙ is));
@@ -130,7 +136,7 @@ module _ {D : Type 0} (clock : D → ℕ) (crash : D → ℕ → List ℕ → Ty
 
   pub fares_faulted : (attempted : Decoded) → CallPasses attempted → Doubts attempted old new → GoesOnWith ((record { attempted = attempted; outcome = faulted }) ∷ [])
   fares_faulted attempted call doubts =
-      let attempt : Attempt = record { attempted = attempted; outcome = faulted } in
+      let attempt : Attempt Decoded = record { attempted = attempted; outcome = faulted } in
       fares_attempt opened made ends start (clock old.disk) (clock new.disk) (crash old.disk) (crash new.disk) old.records new.records old.doubt new.doubt attempt fares call.moments (record {
         are_settled = doubts.records ∙ fares.are_settled ∙ settled-faulted opened made attempted;
         in_doubt = λ r is. ⊎_elim (λ same. doubt-later made attempted r (fares.in_doubt r (sym same ∙ is))) (λ this. subst (IsInDoubt (made ++ attempt ∷ [])) (same_Some attempted r (sym this ∙ is)) (doubt-last made attempted)) doubts.doubt;
@@ -140,8 +146,8 @@ module _ {D : Type 0} (clock : D → ℕ) (crash : D → ℕ → List ℕ → Ty
   -- a call that makes no attempt leaves the disk and the records
   pub fares_unmoved : new.disk ≡ old.disk → new.records ≡ old.records → new.doubt ≡ old.doubt → GoesOnWith []
   fares_unmoved disk records doubt =
-      let P : D → List Decoded → Option Decoded → Type 0 = λ disk records doubt. Fares opened made ends start (clock disk) (crash disk) records doubt in
-      let Q : List Attempt → List ℕ → Type 0 = λ made ends. Fares opened made ends start (clock new.disk) (crash new.disk) new.records new.doubt in
+      let P : D → List Decoded → Option Decoded → Type 0 = λ disk records doubt. Fares SameRecords opened made ends start (clock disk) (crash disk) records doubt in
+      let Q : List (Attempt Decoded) → List ℕ → Type 0 = λ made ends. Fares SameRecords opened made ends start (clock new.disk) (crash new.disk) new.records new.doubt in
       subst₂ Q (sym (append-nil made)) (sym (append-nil ends)) (subst (λ at. P at new.records new.doubt) (sym disk) (subst₂ (P old.disk) (sym records) (sym doubt) fares))
 
   answer-fares : (asked : Entry) (reply : Reply) → CallPasses (record_of asked) → Answers asked reply old new → GoesOnWith (attempts_ended (record_of asked) (done_where (writes asked reply)))
@@ -165,12 +171,3 @@ module _ {D : Type 0} (clock : D → ℕ) (crash : D → ℕ → List ℕ → Ty
   act_fares asked (Newer object number) call acts = answer-fares asked (Newer object number) call acts
   act_fares asked (Stranger object) call acts = answer-fares asked (Stranger object) call acts
   act_fares asked (Worn object) call acts = answer-fares asked (Worn object) call acts
-
-  -- a call that takes the definitions
-  pub define_fares : (names : List (List ℕ)) (result : Result (Unit {0}) StoreFault) → CallPasses (Definitions names) → Defines names result old new → GoesOnWith (define_attempts names result)
-  define_fares names (Ok nothing) call it = fares_done (Definitions names) call it
-  define_fares names (Err store.DiskFault) call it = fares_faulted (Definitions names) call it
-  define_fares names (Err store.Defined) call same =
-      fares_unmoved (ap (λ it. it.disk) same) (ap (λ it. it.records) same) (ap (λ it. it.doubt) same)
-  define_fares names (Err store.NoMemory) call same =
-      fares_unmoved (ap (λ it. it.disk) same) (ap (λ it. it.records) same) (ap (λ it. it.doubt) same)

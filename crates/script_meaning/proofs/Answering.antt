@@ -21,16 +21,18 @@ use Rattle.ses_report.specs.Refusals.{no_form, not_attached, already_attached}
 use Rattle.ses_step.specs.Sessions.{located, with_view, updated, commit_asked, is_staged, change_of_view}
 use Rattle.ses_step.specs.Words.{place_of}
 use Rattle.aw_codec.specs.declared.record.Decoded.{Decoded}
+use Rattle.script_world.specs.Worlds.{Event}
 use Rattle.script_meaning.specs.Answering.{AnswersInOrder, CommandsAreAnswered, AssignmentsAreDone}
 use Rattle.script_meaning.specs.Fit.{ViewsFit, SharedFits}
 use Rattle.script_meaning.specs.Matching.{CanBeOpened}
 use Rattle.script_meaning.specs.Transcript.{world_at}
-use Rattle.script_meaning.proofs.Opening.{fits_at, found_at_number}
+use Rattle.script_meaning.proofs.Reached.{fits_at, found_at_number}
 use Rattle.script_meaning.proofs.Reading.{place_of-within}
-use Rattle.script_meaning.specs.Worlds.{turn_from, turn}
-use Rattle.script_meaning.specs.Outcomes.{Outcome, OnDisk, by_history}
+use Rattle.script_meaning.specs.Turns.{turn_from, turn}
+use Rattle.script_world.specs.Outcomes.{Outcome}
+use Rattle.script_meaning.specs.Language.{by_history, HistoryDisk}
 
-module _ (coming : List Outcome) (definitions names : List (List ℕ)) (disk : OnDisk (Workspace Change)) (s : Session) where
+module _ (coming : List Outcome) (definitions names : List (List ℕ)) (disk : HistoryDisk) (s : Session) where
   abbrev by_views : ℕ → Option (List View) → Result View Refusal
   by_views object those = elim those [ None ↦ Err not_attached | Some views ↦ ok_or (slice_get views object) no_form ]
 
@@ -109,7 +111,7 @@ commands_answered coming definitions names disk s own = in_order coming definiti
 
 -- ---- an assignment
 
-module _ (coming : List Outcome) (definitions names : List (List ℕ)) (sessions : List Session) (disk : OnDisk (Workspace Change)) (s : Session) (fits : SharedFits definitions sessions disk.state) (own_place : slice_get sessions s.who ≡ Some s) (views : List View) (attached : s.views ≡ Some views) (value : ℤ) where
+module _ (coming : List Outcome) (definitions names : List (List ℕ)) (sessions : List Session) (disk : HistoryDisk) (s : Session) (fits : SharedFits definitions sessions disk.state) (own_place : slice_get sessions s.who ≡ Some s) (views : List View) (attached : s.views ≡ Some views) (value : ℤ) where
   abbrev IsDone : Result View Refusal → Type 0
   IsDone found = said coming definitions names disk s (elim found [ Err refusal ↦ (Said (Refused refusal), s) | Ok view ↦ (Said Done, with_view s (record view { private = Int value })) ]) ≡ Done
 
@@ -124,7 +126,7 @@ module _ (coming : List Outcome) (definitions names : List (List ℕ)) (sessions
       let inside : object < length views = omega (arith, place_of-within definitions name object is, fits.objects, fit.count) in
       subst (λ (those : Option (List View)). IsDone (by_views coming definitions names disk s object those)) (sym attached) (done_at object inside)
 
-pub assignments_done : (records : List Decoded) (coming : List Outcome) (lines : List (List ℕ)) → CanBeOpened records → AssignmentsAreDone coming (world_at records coming lines)
-assignments_done records coming lines can disk who session views is found attached name value known =
-    let w = world_at records coming lines in
-    done_place coming w.definitions w.names w.sessions disk session (fits_at records coming lines can disk is) (found_at_number records coming lines can disk who session is found) views attached value name (place_of w.definitions name) refl known
+pub assignments_done : (names : List (List ℕ)) (records : List Decoded) (coming : List Outcome) (events : List Event) → CanBeOpened records → AssignmentsAreDone coming (world_at names records coming events)
+assignments_done names records coming events can disk who session views is found attached name value known =
+    let w = world_at names records coming events in
+    done_place coming w.definitions w.names w.sessions disk session (fits_at names records coming events can disk is) (found_at_number names records coming events can disk who session is found) views attached value name (place_of w.definitions name) refl known

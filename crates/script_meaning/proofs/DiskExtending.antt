@@ -15,18 +15,20 @@ use Rattle.ses_step.specs.declared.session.Session.{Session}
 use Rattle.ses_step.specs.declared.session.View.{View}
 use Rattle.ses_step.specs.Answers.{is_refusal}
 use Rattle.ses_step.specs.Sessions.{begun, located, finished}
-use Rattle.script_meaning.specs.Worlds.{World, Turn, turn_from, turn}
-use Rattle.script_meaning.specs.Outcomes.{Outcome, OnDisk, history_machine, by_history}
+use Rattle.script_world.specs.Worlds.{Event}
+use Rattle.script_meaning.specs.Turns.{Turn, turn_from, turn}
+use Rattle.script_world.specs.Outcomes.{Outcome, among}
+use Rattle.script_meaning.specs.Language.{history_machine, by_history, HistoryDisk, HistoryWorld}
 use Rattle.script_meaning.specs.Transcript.{world_at}
 use Rattle.script_meaning.specs.Fit.{SharedFits}
 use Rattle.script_meaning.specs.Matching.{CanBeOpened}
 use Rattle.script_meaning.specs.Extending.{Commits, IsGranted, CommitsExtend, GrantsHaveLatest}
 use Rattle.script_meaning.proofs.DiskTurns.{unwritten_turn, done_turn, faulted_turn, Writes, turn-cases, acquire-unwritten}
-use Rattle.script_meaning.proofs.RecordedTurns.{writing-grants}
+use Rattle.script_meaning.proofs.Records.{writing-grants}
 use Rattle.script_meaning.proofs.Extending.{PlainCommits, commits, acquires}
-use Rattle.script_meaning.proofs.Opening.{fits_at, found_at_number}
+use Rattle.script_meaning.proofs.Reached.{fits_at, found_at_number}
 
-module _ (coming : List Outcome) (definitions names : List (List ℕ)) (sessions : List Session) (disk : OnDisk (Workspace Change)) (s : Session) (fits : SharedFits definitions sessions disk.state) (own_place : slice_get sessions s.who ≡ Some s) (views : List View) (attached : s.views ≡ Some views) where
+module _ (coming : List Outcome) (definitions names : List (List ℕ)) (sessions : List Session) (disk : HistoryDisk) (s : Session) (fits : SharedFits definitions sessions disk.state) (own_place : slice_get sessions s.who ≡ Some s) (views : List View) (attached : s.views ≡ Some views) where
   abbrev plain : Turn (Workspace Change)
   plain = turn history_machine definitions names disk.state s command.Commit
 
@@ -41,7 +43,7 @@ module _ (coming : List Outcome) (definitions names : List (List ℕ)) (sessions
       ap (λ b. (turn_from history_machine definitions names disk.state (b, after)).answer) writing.asks ∙ ap (λ it. (finished definitions names after asked it).0) (writing-grants asked reply writing.is).reply_is
 
   commits_on_disk : Commits definitions disk s views (turn (by_history coming) definitions names disk s command.Commit)
-  commits_on_disk = turn-cases history_machine coming definitions names disk s command.Commit (Commits definitions disk s views) unwritten_case done_case faulted_case
+  commits_on_disk = turn-cases history_machine (among coming) definitions names disk s command.Commit (Commits definitions disk s views) unwritten_case done_case faulted_case
     where
       unwritten_case : ((asked : Entry) → (begun definitions s command.Commit).0 ≡ Ask asked → Writes history_machine definitions disk.state s command.Commit asked false) → Commits definitions disk s views (unwritten_turn disk plain)
       unwritten_case none = record {
@@ -49,30 +51,30 @@ module _ (coming : List Outcome) (definitions names : List (List ℕ)) (sessions
         extends = plain_commits.extends;
       }
 
-      done_case : (asked : Entry) (left : List Outcome) → Writes history_machine definitions disk.state s command.Commit asked true → Commits definitions disk s views (done_turn disk plain asked left)
-      done_case asked left writing = record { answers = inl (writing-done asked writing); extends = plain_commits.extends }
+      done_case : (asked : Entry) → Writes history_machine definitions disk.state s command.Commit asked true → Commits definitions disk s views (done_turn disk plain asked)
+      done_case asked writing = record { answers = inl (writing-done asked writing); extends = plain_commits.extends }
 
-      faulted_case : (asked : Entry) (left : List Outcome) → Writes history_machine definitions disk.state s command.Commit asked true → Commits definitions disk s views (faulted_turn disk s asked left)
-      faulted_case asked left writing = record {
+      faulted_case : (asked : Entry) → Writes history_machine definitions disk.state s command.Commit asked true → Commits definitions disk s views (faulted_turn disk s asked)
+      faulted_case asked writing = record {
         answers = inr (record { refusal = inr refl; same_session = refl; same_state = refl });
         extends = λ done. absurd (true≢false (ap is_refusal done));
       }
 
   acquires_on_disk : (name : List ℕ) → let t = turn (by_history coming) definitions names disk s (command.Acquire name) in t.answer ≡ Done → IsGranted definitions disk.state t.shared.state s views name
   acquires_on_disk name =
-      let P : Turn (OnDisk (Workspace Change)) → Type 0 = λ t. t.answer ≡ Done → IsGranted definitions disk.state t.shared.state s views name in
+      let P : Turn HistoryDisk → Type 0 = λ t. t.answer ≡ Done → IsGranted definitions disk.state t.shared.state s views name in
       subst P (sym (acquire-unwritten coming definitions names disk s (located definitions s name))) (acquires definitions names sessions disk.state s fits own_place views attached name)
 
 -- ---- after any lines
 
-module _ (records : List Decoded) (coming : List Outcome) (lines : List (List ℕ)) (can : CanBeOpened records) where
-  abbrev reached : World (OnDisk (Workspace Change))
-  reached = world_at records coming lines
+module _ (names : List (List ℕ)) (records : List Decoded) (coming : List Outcome) (events : List Event) (can : CanBeOpened records) where
+  abbrev reached : HistoryWorld
+  reached = world_at names records coming events
 
-  pub commits_extend : CommitsExtend coming (world_at records coming lines)
+  pub commits_extend : CommitsExtend coming (world_at names records coming events)
   commits_extend disk who session views is found attached =
-      commits_on_disk coming reached.definitions reached.names reached.sessions disk session (fits_at records coming lines can disk is) (found_at_number records coming lines can disk who session is found) views attached
+      commits_on_disk coming reached.definitions reached.names reached.sessions disk session (fits_at names records coming events can disk is) (found_at_number names records coming events can disk who session is found) views attached
 
-  pub grants_have_latest : GrantsHaveLatest coming (world_at records coming lines)
+  pub grants_have_latest : GrantsHaveLatest coming (world_at names records coming events)
   grants_have_latest disk who session views is found attached =
-      acquires_on_disk coming reached.definitions reached.names reached.sessions disk session (fits_at records coming lines can disk is) (found_at_number records coming lines can disk who session is found) views attached
+      acquires_on_disk coming reached.definitions reached.names reached.sessions disk session (fits_at names records coming events can disk is) (found_at_number names records coming events can disk who session is found) views attached

@@ -29,8 +29,8 @@ use Rattle.ses_step.specs.Words.{place_of}
 use Rattle.ses_report.specs.Refusals.{not_attached, full}
 use Rattle.ses_step.specs.Answers.{is_refusal}
 use Rattle.ses_step.specs.Sessions.{is_staged, change_of_view, commit_asked, name_at}
-use Rattle.script_meaning.specs.Worlds.{Turn, turn_from, turn, replied}
-use Rattle.script_meaning.specs.Outcomes.{history_machine}
+use Rattle.script_meaning.specs.Turns.{Turn, turn_from, turn, replied}
+use Rattle.script_meaning.specs.Language.{history_machine}
 use Rattle.script_meaning.specs.Values.{in_range}
 use Rattle.script_meaning.specs.Fit.{ViewsFit, SharedFits}
 use Rattle.script_meaning.specs.Extending.{HasLatest, IsCommitted, IsFull, IsGranted}
@@ -205,7 +205,7 @@ module _ (definitions names : List (List ℕ)) (sessions : List Session) (shared
 
       grant : (it : Object Cell) → slice_get (standing integers shared) view.object ≡ Some it → MayGrant it s.who view.number → P Acquired
       grant it is may _ =
-          let latest = granted_latest definitions names sessions shared s fits own_place views attached object view found it (ap (slice_get (standing integers shared)) (sym here) ∙ is) may in
+          let latest = granted_latest shared s.who views ((fits.each s.who s own_place).views views attached) object view found it (ap (slice_get (standing integers shared)) (sym here) ∙ is) may in
           record {
             object = object;
             view = view;

@@ -32,7 +32,7 @@ use Rattle.ses_step.specs.Sessions.{new_session, seen, updated, is_staged, chang
 use Rattle.script_meaning.specs.Fit.{is_value, ViewFits, ViewsFit, SessionFits}
 use Rattle.script_meaning.proofs.Fitting.{number-le-latest, changes_in, change_of-view, change_of-from, committed, ViewFits-passed, ViewFits-committed, IsFree, granted_to, owner_of-same, owner_of-other, ViewFits-not_granted, ViewFits-granted_to_another, ViewFits-granted}
 use Rattle.script_meaning.proofs.FittingSessions.{ViewsFit-mapped, ViewsFit-set, ViewsFit-seen, slice_get-standing}
-use Rattle.script_meaning.proofs.FittingTurns.{MayGrant, acquire_reply-cases, commit_reply-cases, located-cases, number-small, AssignsInteger}
+use Rattle.script_meaning.proofs.FittingTurns.{MayGrant, acquire_reply-cases, commit_reply-cases, located-cases, number-small, AssignsInteger, granted_latest}
 use Rattle.ses_report.specs.declared.refusal.Refusal.{Refusal}
 use Rattle.script_world.specs.Meaning as world
 use Rattle.aw_codec.specs.declared.record.Decoded.{Decoded}
@@ -220,8 +220,7 @@ module _ (d names : List (List ℕ)) (shared : Workspace Change) (count who : �
             ⊎_elim (λ none. inl (sym owner ∙ none.0)) (λ own. inr (sym owner ∙ own)) may
 
         latest : view.number ≡ latest_number integers shared.history view.object
-        latest =
-            ⊎_elim (λ none. omega (arith, number-le-latest integers shared.history view.object view.number view.base fitting.base, ap (λ it. it.number) same, none.1)) (λ own. fitting.latest (fitting.owned.1 (sym (ap (λ it. it.owner) same) ∙ own))) may
+        latest = granted_latest shared who views all_fit view.object view here it is may
 
         owners : (object : ℕ) → ForSome (owner_of after.owners object) (λ by. (object < shared.objects) × (by < count))
         owners object by owned =

@@ -18,7 +18,9 @@ use Rattle.mv_core.specs.Owners.{owner_of}
 use Rattle.mv_core.specs.Workspace.{Workspace}
 use Rattle.ses_step.specs.declared.session.Session.{Session}
 use Rattle.ses_step.specs.declared.session.View.{View}
-use Rattle.script_world.specs.Worlds.{World, Event, script_ends, closed, answered, world_after}
+use Rattle.ses_step.specs.Sessions.{new_session}
+use Rattle.script_world.specs.Worlds.{World, Event, script_ends, with_session, closed, answered, world_after}
+use Rattle.script_world.specs.Outcomes as disk
 use Rattle.script_world.specs.Outcomes.{Outcome, OnDisk, on_disk, among, attempts_of}
 use Rattle.script_world.specs.Left.{done_records, settled_records, MayLeave}
 use Rattle.script_world.proofs.Appending.{world_after-append}
@@ -55,6 +57,10 @@ module _ (records : List Decoded) (next : ℕ → Outcome) where
   pub stands_on : (w : HistoryWorld) (events : List Event) → WorldStands w → WorldStands (world_after (on_disk store_writing next history_machine) w events)
   stands_on w events it = all.worlds_fit (on_disk store_writing next history_machine) Spoken (Defined records) SoundOn FitsOn lawful lines_spoken w events it
 
+  -- the world in which a session's line is taken up
+  pub taken_up-stands : (w : HistoryWorld) (name : List ℕ) → WorldStands w → WorldStands (with_session (closed (on_disk store_writing next history_machine).opens w) name)
+  taken_up-stands w name it = all.taken_up-fits (on_disk store_writing next history_machine) Spoken (Defined records) SoundOn FitsOn lawful w name it
+
 -- ---- the opening
 
 pub opening_stands : (names : List (List ℕ)) (records : List Decoded) (next : ℕ → Outcome) → CanBeOpened records → WorldStands records next (opening names records)
@@ -87,6 +93,13 @@ opening_stands names records next can = by_records records can.spellings can.rep
           };
           stands = subst (λ those. Match those defined (commits_of records)) (sym (append-nil those)) (record { names = refl; commits = refl; replayable = can; spellings = are });
         }
+
+pub opening_sessions : (names : List (List ℕ)) (records : List Decoded) (who : ℕ) (session : Session) → slice_get (opening names records).sessions who ≡ Some session → session ≡ new_session who
+opening_sessions names records who session = by_names (names_of records)
+  where
+    by_names : (defined : Option (List (List ℕ))) → (let w : HistoryWorld = disk.opening names defined (workspace_of records []) in slice_get w.sessions who ≡ Some session) → session ≡ new_session who
+    by_names None found = all.first-session language 0 names who session found ∙ ap new_session (omega arith)
+    by_names (Some those) found = all.first-session language 0 names who session found ∙ ap new_session (omega arith)
 
 -- ---- any world of a run
 

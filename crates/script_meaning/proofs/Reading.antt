@@ -31,8 +31,10 @@ use Rattle.ses_step.specs.declared.session.View.{View}
 use Rattle.ses_step.specs.Words.{place_of}
 use Rattle.ses_report.specs.Refusals.{no_form, not_attached, already_attached}
 use Rattle.ses_step.specs.Sessions.{seen, with_view, updated, is_staged, change_of_view, committed_view, owning_in, located, commit_asked, finished}
-use Rattle.script_meaning.specs.Worlds.{World, Turn, turn_from, turn}
-use Rattle.script_meaning.specs.Outcomes.{Outcome, OnDisk, history_machine, by_history}
+use Rattle.script_world.specs.Worlds.{Event}
+use Rattle.script_meaning.specs.Turns.{Turn, turn_from, turn}
+use Rattle.script_world.specs.Outcomes.{Outcome, among}
+use Rattle.script_meaning.specs.Language.{history_machine, by_history, HistoryDisk, HistoryWorld}
 use Rattle.script_meaning.specs.Transcript.{world_at}
 use Rattle.script_meaning.specs.Fit.{ViewsFit, SharedFits}
 use Rattle.script_meaning.specs.Extending.{IsExtended, IsCommitted}
@@ -44,7 +46,7 @@ use Rattle.script_meaning.proofs.FittingSessions.{length-seen, seen-latest}
 use Rattle.script_meaning.proofs.FittingTurns.{acquire_reply-cases, commit_reply-cases, located-cases, number-small}
 use Rattle.script_meaning.proofs.Extending.{within, staged_found, IsCommitted-accepted}
 use Rattle.script_meaning.proofs.DiskTurns.{turn-cases, attach-unwritten, acquire-unwritten, assign-unwritten, update-unwritten, show-unwritten}
-use Rattle.script_meaning.proofs.Opening.{fits_at, found_at_number}
+use Rattle.script_meaning.proofs.Reached.{fits_at, found_at_number}
 
 -- ---- AW ATTACH
 
@@ -296,8 +298,8 @@ module _ (definitions names : List (List ℕ)) (sessions : List Session) (shared
 
 -- ---- on a disk
 
-module _ (coming : List Outcome) (definitions names : List (List ℕ)) (sessions : List Session) (disk : OnDisk (Workspace Change)) (s : Session) (fits : SharedFits definitions sessions disk.state) (own_place : slice_get sessions s.who ≡ Some s) (views : List View) (attached : s.views ≡ Some views) where
-  abbrev MovesOnDisk : Command → Turn (OnDisk (Workspace Change)) → Type 0
+module _ (coming : List Outcome) (definitions names : List (List ℕ)) (sessions : List Session) (disk : HistoryDisk) (s : Session) (fits : SharedFits definitions sessions disk.state) (own_place : slice_get sessions s.who ≡ Some s) (views : List View) (attached : s.views ≡ Some views) where
+  abbrev MovesOnDisk : Command → Turn HistoryDisk → Type 0
   MovesOnDisk own t = Moves definitions own disk.state t.shared.state s views t.session
 
   pub moves_on_disk : (own : Command) → MovesOnDisk own (turn (by_history coming) definitions names disk s own)
@@ -311,7 +313,7 @@ module _ (coming : List Outcome) (definitions names : List (List ℕ)) (sessions
       subst (MovesOnDisk command.Update) (sym (update-unwritten coming definitions names disk s s.views)) (update_moves definitions names sessions disk.state s fits own_place views attached)
   moves_on_disk command.Commit =
       let plain = commit_moves definitions names sessions disk.state s fits own_place views attached in
-      turn-cases history_machine coming definitions names disk s command.Commit (MovesOnDisk command.Commit) (λ none. plain) (λ asked left writing. plain) (λ asked left writing. uncommitted definitions names sessions disk.state s fits own_place views attached)
+      turn-cases history_machine (among coming) definitions names disk s command.Commit (MovesOnDisk command.Commit) (λ none. plain) (λ asked writing. plain) (λ asked writing. uncommitted definitions names sessions disk.state s fits own_place views attached)
   moves_on_disk (command.Show name) =
       subst (MovesOnDisk (command.Show name)) (sym (show-unwritten coming definitions names disk s (located definitions s name))) (show_moves definitions names sessions disk.state s fits own_place views attached name)
 
@@ -332,7 +334,7 @@ module _ (coming : List Outcome) (definitions names : List (List ℕ)) (sessions
       (subst (λ those. ShowsBy object (elim those [ None ↦ Err not_attached | Some views ↦ ok_or (slice_get views object) no_form ])) (sym attached) (shows_view object inside))
 
 -- a session that isn't attached stays so and as it was, but for an AW ATTACH
-module _ (coming : List Outcome) (definitions names : List (List ℕ)) (disk : OnDisk (Workspace Change)) (s : Session) (detached : s.views ≡ None) where
+module _ (coming : List Outcome) (definitions names : List (List ℕ)) (disk : HistoryDisk) (s : Session) (detached : s.views ≡ None) where
   abbrev Stays : Begun × Session → Type 0
   Stays b = (turn_from (by_history coming) definitions names disk b).session ≡ s
 
@@ -364,14 +366,14 @@ module _ (coming : List Outcome) (definitions names : List (List ℕ)) (disk : O
 
 -- ---- after any lines
 
-module _ (records : List Decoded) (coming : List Outcome) (lines : List (List ℕ)) (can : CanBeOpened records) where
-  abbrev reached : World (OnDisk (Workspace Change))
-  reached = world_at records coming lines
+module _ (names : List (List ℕ)) (records : List Decoded) (coming : List Outcome) (events : List Event) (can : CanBeOpened records) where
+  abbrev reached : HistoryWorld
+  reached = world_at names records coming events
 
-  pub own_commands_move : OwnCommandsMove coming (world_at records coming lines)
+  pub own_commands_move : OwnCommandsMove coming (world_at names records coming events)
   own_commands_move disk who session views is found attached =
-      moves_on_disk coming reached.definitions reached.names reached.sessions disk session (fits_at records coming lines can disk is) (found_at_number records coming lines can disk who session is found) views attached
+      moves_on_disk coming reached.definitions reached.names reached.sessions disk session (fits_at names records coming events can disk is) (found_at_number names records coming events can disk who session is found) views attached
 
-  pub shows_what_is_read : ShowsWhatIsRead coming (world_at records coming lines)
+  pub shows_what_is_read : ShowsWhatIsRead coming (world_at names records coming events)
   shows_what_is_read disk who session views is found attached =
-      shows coming reached.definitions reached.names reached.sessions disk session (fits_at records coming lines can disk is) (found_at_number records coming lines can disk who session is found) views attached
+      shows coming reached.definitions reached.names reached.sessions disk session (fits_at names records coming events can disk is) (found_at_number names records coming events can disk who session is found) views attached

@@ -1,334 +1,282 @@
 -- An attached session reads what was the latest generation when it attached, and behind that what its own lines assigned.
-use Rattle.std.specs.Prelude.{◌≡◌, ◌≢◌, ◌<◌, ◌++◌, ◌⊎◌, ℕ, Bool, true, false, List, [], ◌∷◌, length, Option, Some, None, nat_lt, slice_get, slice_index_or, if◌then◌else◌, refl}
+use Rattle.std.specs.Prelude.{◌≡◌, ◌≢◌, ◌<◌, ◌++◌, ◌⊎◌, ℕ, Bool, List, [], ◌∷◌, length, Option, Some, None, slice_get, if◌then◌else◌, refl}
 use Rattle.std.specs.Option.{ForSome}
 use Rattle.std.proofs.Common.{◌∙◌, ap, sym, subst, inl, inr, ⊎_elim, arith, append-nil, append_assoc}
-use Rattle.std.proofs.lemmas.Bool.{eq-eqb, ne_eqb, ltb-true, ltb-false, cases_eq}
+use Rattle.std.proofs.lemmas.Bool.{eq-eqb, ne_eqb, cases_eq}
 use Rattle.std.proofs.lemmas.Option.{none-some, same_Some, slice_get_within, slice_get_cases, slice_get-get_or}
 use Rattle.aw_cell.specs.declared.cell.Cell.{Cell}
 use Rattle.aw_codec.specs.declared.record.Decoded.{Decoded}
 use Rattle.mv_core.specs.declared.entry.Change.{Change}
 use Rattle.mv_core.specs.Generations.{latest_body}
-use Rattle.mv_core.specs.Workspace.{Workspace}
 use Rattle.mv_core.specs.Integers.{integers}
-use Rattle.ses_step.specs.declared.line.Line.{Line}
-use Rattle.ses_step.specs.declared.line.Line.TheVariants as line
 use Rattle.ses_step.specs.declared.line.Command.{Command}
 use Rattle.ses_step.specs.declared.line.Command.TheVariants as command
 use Rattle.ses_step.specs.declared.session.Session.{Session}
 use Rattle.ses_step.specs.declared.session.View.{View}
-use Rattle.ses_step.specs.Lines.{line_form}
 use Rattle.ses_step.specs.Sessions.{new_session}
-use Rattle.script_meaning.specs.Worlds.{World, Turn, turn, silent, refused_as_no_form, no_session, can_define, session_place, with_session, shared_of, closed, commanded, line_answered, answered}
-use Rattle.script_meaning.specs.Outcomes.{Outcome, OnDisk, by_history}
-use Rattle.script_meaning.specs.Transcript.{opening, world_after, world_at}
+use Rattle.script_world.specs.Worlds.{Event, Answered, session_of, silent, refused_so, with_definitions, with_session, own_session, commanded, shared_of, closed, settled, answered, world_after}
+use Rattle.script_world.specs.Outcomes.{Outcome, among}
+use Rattle.script_world.proofs.Appending.{world_after-append}
+use Rattle.script_world.proofs.Moves.{MayTurn}
+use Rattle.script_world.proofs.Walk.{Rests, walk}
 use Rattle.script_meaning.specs.Fit.{SharedFits}
-use Rattle.script_meaning.specs.Isolation.{session_of}
+use Rattle.script_meaning.specs.Language.{language, HistoryDisk, HistoryWorld, by_history}
 use Rattle.script_meaning.specs.Matching.{CanBeOpened}
 use Rattle.script_meaning.specs.Reading.{Attaches, read_after, Moves, read_by, read_on, IsRead, ReadItsOwn}
-use Rattle.script_meaning.proofs.Elements.{slice_get-set_same, slice_get-set_other, slice_get-push_cases}
-use Rattle.script_meaning.proofs.FittingWorlds.{IsReached, HasOwnPlace, session_place-le, closed_reached, with_session_reached}
-use Rattle.script_meaning.proofs.Isolation.{with_session_holds}
-use Rattle.script_meaning.proofs.Opening.{always_reached}
+use Rattle.script_meaning.specs.TakingTurns.{with_turn}
+use Rattle.script_meaning.specs.Transcript.{opening, world_at}
+use Rattle.script_meaning.specs.Turns.{Turn, turn}
+use Rattle.script_meaning.proofs.Elements.{slice_get-set_same, slice_get-set_other, slice_get-set_cases, slice_get-append, slice_get-push_cases}
+use Rattle.script_meaning.proofs.Reached.{WorldStands, taken_up-stands, opening_sessions, world_fits, always_stands, always_fits}
 use Rattle.script_meaning.proofs.Reading.{attach_gives_latest, stays_detached, moves_on_disk}
-use Rattle.script_meaning.proofs.TranscriptLaws.{world_after-append}
+use Rattle.script_meaning.proofs.TakingTurns.{commanded-turn}
 
--- ---- lines
-
--- what holds of no lines, and of one line more, holds of all
-by_lines : (P : List (List ℕ) → Type 0) → P [] → ((lines : List (List ℕ)) (l : List ℕ) → P lines → P (lines ++ l ∷ [])) → (lines : List (List ℕ)) → P lines
-by_lines P none more lines = from [] none lines
+-- what holds of no events, and of one event more, holds of all
+by_events : (P : List Event → Type 0) → P [] → ((events : List Event) (event : Event) → P events → P (events ++ event ∷ [])) → (events : List Event) → P events
+by_events P none more events = from [] none events
   where
-    from : (passed : List (List ℕ)) → P passed → (lines : List (List ℕ)) → P (passed ++ lines)
+    from : (passed : List Event) → P passed → (events : List Event) → P (passed ++ events)
     from passed it [] = subst P (sym (append-nil passed)) it
-    from passed it (l ∷ lines) = subst P (append_assoc passed (l ∷ []) lines) (from (passed ++ l ∷ []) (more passed l it) lines)
+    from passed it (event ∷ events) = subst P (append_assoc passed (event ∷ []) events) (from (passed ++ event ∷ []) (more passed event it) events)
 
-read_on-push : (coming : List Outcome) (who object : ℕ) (w : World (OnDisk (Workspace Change))) (lines : List (List ℕ)) (l : List ℕ) (read : Cell) → read_on coming who object w (lines ++ l ∷ []) read ≡ read_by (world_after (by_history coming) w lines) who object (line_form l) (read_on coming who object w lines read)
-read_on-push coming who object w [] l read = refl
-read_on-push coming who object w (one ∷ lines) l read =
-    read_on-push coming who object (answered (by_history coming) w one).world lines l (read_by w who object (line_form one) read)
+read_on-push : (coming : List Outcome) (who object : ℕ) (w : HistoryWorld) (events : List Event) (event : Event) (read : Cell) →
+    let last = world_after (by_history coming) w events in
+    read_on coming who object w (events ++ event ∷ []) read ≡ read_by last.definitions who object (session_of last event) (read_on coming who object w events read)
+read_on-push coming who object w [] event read = refl
+read_on-push coming who object w (one ∷ events) event read =
+    read_on-push coming who object (answered (by_history coming) w one).world events event (read_by w.definitions who object (session_of w one) read)
 
--- ---- a line that isn't of the session
+-- an event of another session, or of none
+read_by-other : (definitions : List (List ℕ)) (who object : ℕ) (own : Option (ℕ × Option Command)) → ForSome own (λ it. it.0 ≢ who) → (read : Cell) → read_by definitions who object own read ≡ read
+read_by-other definitions who object None differs read = refl
+read_by-other definitions who object (Some (place, None)) differs read = refl
+read_by-other definitions who object (Some (place, Some own)) differs read =
+    ap (λ (same : Bool). if same then read_after definitions object own read else read) (ne_eqb place who (differs (place, Some own) refl))
 
-read_by-other : (w : World (OnDisk (Workspace Change))) (who object : ℕ) (l : Line) → session_of w l ≢ Some who → (read : Cell) → read_by w who object l read ≡ read
-read_by-other w who object line.Blank differs read = refl
-read_by-other w who object line.Malformed differs read = refl
-read_by-other w who object (line.Definition name) differs read = refl
-read_by-other w who object (line.Session name None) differs read = refl
-read_by-other w who object (line.Session name (Some own)) differs read =
-    ap (λ (same : Bool). if same then read_after w.definitions object own read else read) (ne_eqb (session_place w name) who (λ same. differs (ap Some same)))
+-- what a session of this world reads now, after an event
+module _ (coming : List Outcome) (w : HistoryWorld) (event : Event) (who object : ℕ) where
+  abbrev machine_opens : List (List ℕ) → HistoryDisk
+  machine_opens = (by_history coming).opens
 
-module _ (coming : List Outcome) (who : ℕ) (session : Session) where
-  abbrev Has : World (OnDisk (Workspace Change)) → Type 0
-  Has w = slice_get w.sessions who ≡ Some session
+  -- the session had a view of the object before, and reads by the event what it reads now
+  record CameFrom (read : Cell) : Type 0 where
+    session : Session
+    views : List View
+    view : View
+    found : slice_get w.sessions who ≡ Some session
+    attached : session.views ≡ Some views
+    seen : slice_get views object ≡ Some view
+    reads : read ≡ read_by w.definitions who object (session_of w event) view.private
 
-  with_session-had : (w : World (OnDisk (Workspace Change))) (name : List ℕ) → length w.sessions ≡ length w.names → who ≢ session_place w name → Has (with_session w name) → Has w
-  with_session-had w name paired differs = by_test (nat_lt (session_place w name) (length w.names)) refl
-    where
-      by_test : (there : Bool) → nat_lt (session_place w name) (length w.names) ≡ there → Has (if there then w else record w { names = w.names ++ name ∷ []; sessions = w.sessions ++ new_session (session_place w name) ∷ [] }) → Has w
-      by_test true is has = has
-      by_test false is has =
-          let past = ltb-false (session_place w name) (length w.names) is in
-          ⊎_elim (λ old. old) (λ last. absurd (differs (omega (arith, last.0, past, session_place-le w name, paired)))) (slice_get-push_cases w.sessions (new_session (session_place w name)) who session has)
+  -- the event is an AW ATTACH of a session that wasn't attached, and it reads the latest generation
+  record HasAttached (shared : Option HistoryDisk) (read : Cell) : Type 0 where
+    own : session_of w event ≡ Some (who, Some command.Attach)
+    unattached : ForSome (slice_get w.sessions who) (λ session. session.views ≡ None)
+    disk : HistoryDisk
+    is_open : shared ≡ Some disk
+    reads : read ≡ latest_body integers disk.state.history object
+
+  abbrev Reads : Answered language HistoryDisk → Type 0
+  Reads a =
+      (session : Session) (views : List View) (view : View) → slice_get a.world.sessions who ≡ Some session → session.views ≡ Some views → slice_get views object ≡ Some view → CameFrom view.private ⊎ HasAttached a.world.shared view.private
 
   -- a session that is attached was there before
-  with_session-attached : (w : World (OnDisk (Workspace Change))) (name : List ℕ) (views : List View) → session.views ≡ Some views → Has (with_session w name) → Has w
-  with_session-attached w name views attached = by_test (nat_lt (session_place w name) (length w.names))
-    where
-      by_test : (there : Bool) → Has (if there then w else record w { names = w.names ++ name ∷ []; sessions = w.sessions ++ new_session (session_place w name) ∷ [] }) → Has w
-      by_test true has = has
-      by_test false has =
-          ⊎_elim (λ old. old) (λ last. absurd (none-some views (sym (ap (λ (it : Session). it.views) last.1) ∙ attached))) (slice_get-push_cases w.sessions (new_session (session_place w name)) who session has)
+  was_there : (after : HistoryWorld) → Rests (by_history coming) w after → (session : Session) (views : List View) → session.views ≡ Some views → slice_get after.sessions who ≡ Some session → slice_get w.sessions who ≡ Some session
+  was_there after rests session views attached found =
+      ⊎_elim (λ same. ap (λ (those : List Session). slice_get those who) (sym same) ∙ found) (λ longer. ⊎_elim (λ old. old) (λ last. absurd (none-some views (sym (ap (λ (it : Session). it.views) last.1) ∙ attached))) (slice_get-push_cases w.sessions (new_session (length w.names)) who session (ap (λ (those : List Session). slice_get those who) (sym longer) ∙ found))) rests.sessions
 
-  commanded-had : (w : World (OnDisk (Workspace Change))) (own_place : ℕ) (command : Option Command) → who ≢ own_place → Has (commanded (by_history coming) w own_place command).world → Has w
-  commanded-had w own_place None differs has = has
-  commanded-had w own_place (Some command) differs has =
-      let t = turn (by_history coming) w.definitions w.names (shared_of (by_history coming) w) (slice_index_or w.sessions own_place (new_session own_place)) command in
-      sym (slice_get-set_other w.sessions own_place who t.session differs) ∙ has
+  -- of none of the session's own lines
+  still : ForSome (session_of w event) (λ it. it.0 ≢ who) → (a : Answered language HistoryDisk) → ((session : Session) (views : List View) → session.views ≡ Some views → slice_get a.world.sessions who ≡ Some session → slice_get w.sessions who ≡ Some session) → Reads a
+  still differs a there session views view found attached seen =
+      inl (record { session = session; views = views; view = view; found = there session views attached found; attached = attached; seen = seen; reads = sym (read_by-other w.definitions who object (session_of w event) differs view.private) })
 
-  line-had : (w : World (OnDisk (Workspace Change))) (l : Line) → length w.sessions ≡ length w.names → session_of w l ≢ Some who → Has (line_answered (by_history coming) w l).world → Has w
-  line-had w line.Blank paired differs = λ has. has
-  line-had w line.Malformed paired differs = λ has. has
-  line-had w (line.Definition name) paired differs = by_test (can_define w name)
-    where
-      by_test : (can : Bool) → Has (if can then silent (record w { definitions = w.definitions ++ name ∷ [] }) else refused_as_no_form no_session w).world → Has w
-      by_test true has = has
-      by_test false has = has
-  line-had w (line.Session name command) paired differs = by_test (nat_lt (session_place w name) 64)
-    where
-      open_world : World (OnDisk (Workspace Change))
-      open_world = closed (by_history coming) w
+-- a turn of the session
+module _ (names : List (List ℕ)) (records : List Decoded) (coming : List Outcome) (events : List Event) (event : Event) (can : CanBeOpened records) (who object : ℕ) where
+  abbrev w : HistoryWorld
+  w = world_at names records coming events
 
-      elsewhere : who ≢ session_place w name
-      elsewhere same = differs (ap Some (sym same))
+  abbrev Now : Answered language HistoryDisk → Type 0
+  Now a = Reads coming w event who object a
 
-      by_test : (room : Bool) → Has (if room then commanded (by_history coming) (with_session open_world name) (session_place w name) command else refused_as_no_form no_session open_world).world → Has w
-      by_test true has =
-          with_session-had open_world name paired elsewhere (commanded-had (with_session open_world name) (session_place w name) command elsewhere has)
-      by_test false has = has
+  -- a session of this world is one of 64, and of a turn's world too
+  few : (session : Session) → slice_get w.sessions who ≡ Some session → who < 64
+  few session found = omega (arith, slice_get_within w.sessions who session found, (always_fits names records coming events can).paired)
 
--- ---- a line of the session
+  module _ (after : HistoryWorld) (rests : Rests (by_history coming) w after) (disk : HistoryDisk) (is_open : after.shared ≡ Some disk) (fits : SharedFits after.definitions after.sessions disk.state) (here : who < length after.sessions) (own : Command) (is : session_of w event ≡ Some (who, Some own)) where
+    s : Session
+    s = own_session after who
 
--- the session had a view of the object before, and reads by the line what it reads now
-record CameFrom (w : World (OnDisk (Workspace Change))) (who object : ℕ) (l : Line) (read : Cell) : Type 0 where
-  session : Session
-  views : List View
-  view : View
-  found : slice_get w.sessions who ≡ Some session
-  attached : session.views ≡ Some views
-  seen : slice_get views object ≡ Some view
-  reads : read ≡ read_by w who object l view.private
+    found_here : slice_get after.sessions who ≡ Some s
+    found_here = slice_get-get_or after.sessions who (new_session who) here
 
--- the line is an AW ATTACH of a session that wasn't attached, and it reads the latest generation
-record HasAttached (before after : World (OnDisk (Workspace Change))) (who : ℕ) (asked : Option Command) (object : ℕ) (read : Cell) : Type 0 where
-  is : asked ≡ Some command.Attach
-  unattached : ForSome (slice_get before.sessions who) (λ session. session.views ≡ None)
-  disk : OnDisk (Workspace Change)
-  is_open : after.shared ≡ Some disk
-  reads : read ≡ latest_body integers disk.state.history object
+    by_number : slice_get after.sessions s.who ≡ Some s
+    by_number = ap (slice_get after.sessions) (fits.each who s found_here).number ∙ found_here
 
-module _ (coming : List Outcome) (records : List Decoded) (w : World (OnDisk (Workspace Change))) (it : IsReached records w) (name : List ℕ) (room : session_place w name < 64) where
-  abbrev place : ℕ
-  place = session_place w name
+    t : Turn HistoryDisk
+    t = turn (by_history coming) after.definitions after.names disk s own
 
-  abbrev open_world : World (OnDisk (Workspace Change))
-  open_world = closed (by_history coming) w
-
-  abbrev named : World (OnDisk (Workspace Change))
-  named = with_session open_world name
-
-  abbrev ReadFrom : Option Command → World (OnDisk (Workspace Change)) → ℕ → Cell → Type 0
-  ReadFrom command after object read = CameFrom w place object (line.Session name command) read ⊎ HasAttached w after place command object read
-
-  own_place : HasOwnPlace coming records named place
-  own_place = with_session_reached coming records open_world name (closed_reached coming records w it) refl room
-
-  abbrev state : OnDisk (Workspace Change)
-  state = shared_of (by_history coming) named
-
-  abbrev s : Session
-  s = slice_index_or named.sessions place (new_session place)
-
-  found_here : slice_get named.sessions place ≡ Some s
-  found_here = slice_get-get_or named.sessions place (new_session place) own_place.within
-
-  all_fit : SharedFits named.definitions named.sessions state.state
-  all_fit = own_place.reached.fits.shared state own_place.is_open
-
-  found_by_number : slice_get named.sessions s.who ≡ Some s
-  found_by_number = ap (slice_get named.sessions) (all_fit.each place s found_here).number ∙ found_here
-
-  none_attached : s.views ≡ None → ForSome (slice_get w.sessions place) (λ session. session.views ≡ None)
-  none_attached detached session found =
-      ap (λ (it : Session). it.views) (same_Some session s (sym (with_session_holds coming place session open_world name found) ∙ found_here)) ∙ detached
-
-  same_definitions : named.definitions ≡ w.definitions
-  same_definitions = by_test (nat_lt place (length w.names))
-    where
-      by_test : (there : Bool) → (if there then open_world else record open_world { names = w.names ++ name ∷ []; sessions = w.sessions ++ new_session place ∷ [] }).definitions ≡ w.definitions
-      by_test true = refl
-      by_test false = refl
-
-  module _ (own : Command) (object : ℕ) (views_now : List View) (view : View) (seen : slice_get views_now object ≡ Some view) where
-    abbrev t : Turn (OnDisk (Workspace Change))
-    t = turn (by_history coming) named.definitions named.names state s own
-
-    abbrev FromTurn : Type 0
-    FromTurn = ReadFrom (Some own) (commanded (by_history coming) named place (Some own)).world object view.private
-
-    moved_read : (views : List View) → s.views ≡ Some views → t.session.views ≡ Some views_now → FromTurn
-    moved_read views attached now =
-        let moves : Moves named.definitions own state.state t.shared.state s views t.session = moves_on_disk coming named.definitions named.names named.sessions state s all_fit found_by_number views attached own in
-        let those : views_now ≡ moves.views_after = same_Some views_now moves.views_after (sym now ∙ moves.attached) in
-        let inside : object < length views = omega (arith, slice_get_within views_now object view seen, ap length those, moves.count) in
-        ⊎_elim (λ found. inl (from moves those found.0 found.2)) (λ past. absurd (omega (arith, inside, past.0))) (slice_get_cases views object).1
+    none_attached : s.views ≡ None → ForSome (slice_get w.sessions who) (λ session. session.views ≡ None)
+    none_attached detached session found =
+        ⊎_elim (λ same. as_here (ap (λ (those : List Session). slice_get those who) same ∙ found)) (λ longer. as_here (ap (λ (those : List Session). slice_get those who) longer ∙ slice_get-append w.sessions (new_session (length w.names) ∷ []) who session found)) rests.sessions
       where
-        from : (moves : Moves named.definitions own state.state t.shared.state s views t.session) → views_now ≡ moves.views_after → (old : View) → slice_get views object ≡ Some old → CameFrom w place object (line.Session name (Some own)) view.private
-        from moves those old found =
-            let new = moves.each object old found in
-            let same : view ≡ new.0 = same_Some view new.0 (sym seen ∙ ap (λ list. slice_get list object) those ∙ new.1) in
-            record {
-              session = s;
-              views = views;
-              view = old;
-              found = with_session-attached coming place s open_world name views attached found_here;
-              attached = attached;
-              seen = found;
-              reads = ap (λ (it : View). it.private) same ∙ new.2.reads ∙ ap (λ definitions. read_after definitions object own old.private) same_definitions ∙ sym (ap (λ (mine : Bool). if mine then read_after w.definitions object own old.private else old.private) (eq-eqb place place refl));
-            }
+        as_here : slice_get after.sessions who ≡ Some session → session.views ≡ None
+        as_here there = ap (λ (it : Session). it.views) (same_Some session s (sym there ∙ found_here)) ∙ detached
 
-    attached_read : s.views ≡ None → own ≡ command.Attach → t.session.views ≡ Some views_now → FromTurn
-    attached_read detached is now =
-        let fresh : Attaches state t = subst (λ (asked : Command). Attaches state (turn (by_history coming) named.definitions named.names state s asked)) (sym is) (attach_gives_latest coming named.definitions named.names state s detached) in
-        let those : views_now ≡ fresh.views = same_Some views_now fresh.views (sym now ∙ fresh.attached) in
-        let latest = fresh.each object view (sym (ap (λ list. slice_get list object) those) ∙ seen) in
-        inr (record { is = ap Some is; unattached = none_attached detached; disk = state; is_open = ap Some fresh.shared; reads = latest.reads ∙ latest.has.body })
+    module _ (views_now : List View) (view : View) (seen : slice_get views_now object ≡ Some view) (now : t.session.views ≡ Some views_now) where
+      abbrev Read : Type 0
+      Read = CameFrom coming w event who object view.private ⊎ HasAttached coming w event who object (Some t.shared) view.private
 
-    turned_read : t.session.views ≡ Some views_now → FromTurn
-    turned_read now = by_views s.views refl
+      moved_read : (views : List View) → s.views ≡ Some views → Read
+      moved_read views attached =
+          let moves : Moves after.definitions own disk.state t.shared.state s views t.session = moves_on_disk coming after.definitions after.names after.sessions disk s fits by_number views attached own in
+          let those : views_now ≡ moves.views_after = same_Some views_now moves.views_after (sym now ∙ moves.attached) in
+          let inside : object < length views = omega (arith, slice_get_within views_now object view seen, ap length those, moves.count) in
+          ⊎_elim (λ found. inl (from moves those found.0 found.2)) (λ past. absurd (omega (arith, inside, past.0))) (slice_get_cases views object).1
+        where
+          from : (moves : Moves after.definitions own disk.state t.shared.state s views t.session) → views_now ≡ moves.views_after → (old : View) → slice_get views object ≡ Some old → CameFrom coming w event who object view.private
+          from moves those old found =
+              let new = moves.each object old found in
+              let same : view ≡ new.0 = same_Some view new.0 (sym seen ∙ ap (λ list. slice_get list object) those ∙ new.1) in
+              record {
+                session = s;
+                views = views;
+                view = old;
+                found = was_there coming w event who object after rests s views attached found_here;
+                attached = attached;
+                seen = found;
+                reads = ap (λ (it : View). it.private) same ∙ new.2.reads ∙ ap (λ definitions. read_after definitions object own old.private) rests.definitions ∙ sym (ap (λ (mine : Bool). if mine then read_after w.definitions object own old.private else old.private) (eq-eqb who who refl)) ∙ ap (λ it. read_by w.definitions who object it old.private) (sym is);
+              }
+
+      attached_read : s.views ≡ None → own ≡ command.Attach → Read
+      attached_read detached attaches =
+          let fresh : Attaches disk t = subst (λ (asked : Command). Attaches disk (turn (by_history coming) after.definitions after.names disk s asked)) (sym attaches) (attach_gives_latest coming after.definitions after.names disk s detached) in
+          let those : views_now ≡ fresh.views = same_Some views_now fresh.views (sym now ∙ fresh.attached) in
+          let latest = fresh.each object view (sym (ap (λ list. slice_get list object) those) ∙ seen) in
+          inr (record { own = is ∙ ap (λ it. Some (who, Some it)) attaches; unattached = none_attached detached; disk = disk; is_open = ap Some fresh.shared; reads = latest.reads ∙ latest.has.body })
+
+      turned_read : Read
+      turned_read = by_views s.views refl
+        where
+          by_views : (views : Option (List View)) → s.views ≡ views → Read
+          by_views (Some views) attached = moved_read views attached
+          by_views None detached =
+              ⊎_elim (attached_read detached) (λ same. absurd (none-some views_now (sym detached ∙ sym (ap (λ (it : Session). it.views) same) ∙ now))) (stays_detached coming after.definitions after.names disk s detached own)
+
+    own_turn : Now (with_turn after who t)
+    own_turn session views view found attached seen =
+        let it : session ≡ t.session = same_Some session t.session (sym found ∙ slice_get-set_same after.sessions who s t.session found_here) in
+        turned_read views view seen (ap (λ (it : Session). it.views) (sym it) ∙ attached)
+
+  -- ---- the event
+
+  of_none : session_of w event ≡ None → ForSome (session_of w event) (λ own. own.0 ≢ who)
+  of_none none own is = absurd (none-some own (sym none ∙ is))
+
+  module _ (after : HistoryWorld) (name : List ℕ) (place : ℕ) (taken_up : after ≡ with_session (closed (by_history coming).opens w) name) (rests : Rests (by_history coming) w after) (may : MayTurn (by_history coming) after place (shared_of (by_history coming).opens w)) where
+    disk : HistoryDisk
+    disk = shared_of (by_history coming).opens w
+
+    stands : WorldStands records (among coming) after
+    stands =
+        subst (WorldStands records (among coming)) (sym taken_up) (taken_up-stands records (among coming) w name (always_stands names records coming events can))
+
+    here : place < length after.sessions
+    here = omega (arith, stands.paired, may.room, may.named)
+
+    fits : SharedFits after.definitions after.sessions disk.state
+    fits = (world_fits records (among coming) after stands).shared disk may.open_so
+
+    by_statement : (statement : Option Command) → session_of w event ≡ Some (place, statement) → Now (settled (by_history coming) (commanded after disk place statement))
+    by_statement None is session views view found attached seen =
+        inl (record { session = session; views = views; view = view; found = was_there coming w event who object after rests session views attached (⊎_elim set (λ other. other.1) (slice_get-set_cases after.sessions place who (own_session after place) session found)); attached = attached; seen = seen; reads = sym (ap (λ it. read_by w.definitions who object it view.private) is) })
       where
-        by_views : (views : Option (List View)) → s.views ≡ views → FromTurn
-        by_views (Some views) attached = moved_read views attached now
-        by_views None detached =
-            ⊎_elim (λ is. attached_read detached is now) (λ same. absurd (none-some views_now (sym detached ∙ sym (ap (λ (it : Session). it.views) same) ∙ now))) (stays_detached coming named.definitions named.names state s detached own)
+        set : (who ≡ place) × (session ≡ own_session after place) → slice_get after.sessions who ≡ Some session
+        set same =
+            ap (slice_get after.sessions) same.0 ∙ slice_get-get_or after.sessions place (new_session place) here ∙ ap Some (sym same.1)
+    by_statement (Some own) is = subst Now (sym (commanded-turn (by_history coming) after place disk may.open_so own)) (⊎_elim mine other (cases_eq place who))
+      where
+        mine : place ≡ who → Now (with_turn after place (turn (by_history coming) after.definitions after.names disk (own_session after place) own))
+        mine same =
+            subst (λ (at : ℕ). Now (with_turn after at (turn (by_history coming) after.definitions after.names disk (own_session after at) own))) (sym same) (own_turn after rests disk may.open_so fits (omega (arith, here, same)) own (is ∙ ap (λ (at : ℕ). Some (at, Some own)) same))
 
-  own_line-read : (command : Option Command) (object : ℕ) (session : Session) (views : List View) (view : View) → slice_get (commanded (by_history coming) named place command).world.sessions place ≡ Some session → session.views ≡ Some views → slice_get views object ≡ Some view → ReadFrom command (commanded (by_history coming) named place command).world object view.private
-  own_line-read None object session views view found attached seen = inl (record {
-    session = session;
-    views = views;
-    view = view;
-    found = with_session-attached coming place session open_world name views attached found;
-    attached = attached;
-    seen = seen;
-    reads = refl;
+        other : place ≢ who → Now (with_turn after place (turn (by_history coming) after.definitions after.names disk (own_session after place) own))
+        other differs =
+            let t = turn (by_history coming) after.definitions after.names disk (own_session after place) own in
+            still coming w event who object (λ those at. λ same. differs (ap (λ (it : ℕ × Option Command). it.0) (same_Some (place, Some own) those (sym is ∙ at)) ∙ same)) (with_turn after place t) (λ session views attached found. was_there coming w event who object after rests session views attached (sym (slice_get-set_other after.sessions place who t.session (λ same. differs (sym same))) ∙ found))
+
+  reads_event : Now (answered (by_history coming) w event)
+  reads_event = walk (by_history coming) w event Now (record {
+    passes = λ after none rests. still coming w event who object (of_none none) (silent after) (was_there coming w event who object after rests);
+    defines = λ lines definitions of_no none is. still coming w event who object (of_none of_no) (silent (with_definitions w definitions)) (λ session views attached found. found);
+    refuses = λ after prefix refusal far why rests session views view found attached seen.
+        let there = was_there coming w event who object after rests session views attached found in
+        still coming w event who object (λ own is same. omega (arith, far own is, few session there, same)) (refused_so prefix refusal after) (was_there coming w event who object after rests) session views view found attached seen;
+    turns = λ after name place statement taken_up own rests may. by_statement after name place taken_up rests may statement own;
   })
-  own_line-read (Some own) object session views view found attached seen =
-      let after = turn (by_history coming) named.definitions named.names state s own in
-      let same : session ≡ after.session = same_Some session after.session (sym found ∙ slice_get-set_same named.sessions place s after.session found_here) in
-      turned_read own object views view seen (sym (ap (λ (it : Session). it.views) same) ∙ attached)
 
--- ---- after any lines
+-- ---- all events
 
-module _ (records : List Decoded) (coming : List Outcome) (can : CanBeOpened records) where
-  -- the world after these lines
-  abbrev at : List (List ℕ) → World (OnDisk (Workspace Change))
-  at lines = world_at records coming lines
+module _ (names : List (List ℕ)) (records : List Decoded) (coming : List Outcome) (can : CanBeOpened records) where
+  abbrev at : List Event → HistoryWorld
+  at events = world_at names records coming events
 
-  at-push : (lines : List (List ℕ)) (l : List ℕ) → at (lines ++ l ∷ []) ≡ (answered (by_history coming) (at lines) l).world
-  at-push lines l = world_after-append (by_history coming) (opening records coming) lines (l ∷ [])
+  abbrev AllRead : List Event → Type 0
+  AllRead events = ReadItsOwn names records coming events
 
-  -- one line more
-  read_more : (lines : List (List ℕ)) (l : List ℕ) (who object : ℕ) (read more : Cell) → IsRead records coming lines who object read → more ≡ read_by (at lines) who object (line_form l) read → IsRead records coming (lines ++ l ∷ []) who object more
-  read_more lines l who object read more was by_line =
-      let start = at (was.before ++ was.line ∷ []) in
-      let first = latest_body integers was.disk.state.history object in
-      let same : world_after (by_history coming) start was.behind ≡ at lines = sym (world_after-append (by_history coming) (opening records coming) (was.before ++ was.line ∷ []) was.behind) ∙ ap at (append_assoc was.before (was.line ∷ []) was.behind ∙ sym was.split) in
-      record {
-        before = was.before;
-        line = was.line;
-        behind = was.behind ++ l ∷ [];
-        split = ap (λ list. list ++ l ∷ []) was.split ∙ append_assoc was.before (was.line ∷ was.behind) (l ∷ []);
-        attaches = was.attaches;
-        disk = was.disk;
-        open_then = was.open_then;
-        reads = by_line ∙ ap (read_by (at lines) who object (line_form l)) was.reads ∙ sym (read_on-push coming who object start was.behind l first ∙ ap (λ world. read_by world who object (line_form l) (read_on coming who object start was.behind first)) same);
-      }
+  at-push : (events : List Event) (event : Event) → at (events ++ event ∷ []) ≡ (answered (by_history coming) (at events) event).world
+  at-push events event = world_after-append (by_history coming) (opening names records) events (event ∷ [])
 
-  abbrev AllRead : List (List ℕ) → Type 0
-  AllRead lines = ReadItsOwn records coming lines
+  read_more : (events : List Event) (event : Event) (who object : ℕ) (read now : Cell) → IsRead names records coming events who object read → now ≡ read_by (at events).definitions who object (session_of (at events) event) read → IsRead names records coming (events ++ event ∷ []) who object now
+  read_more events event who object read now it is = record {
+    before = it.before;
+    event = it.event;
+    behind = it.behind ++ event ∷ [];
+    split = ap (λ those. those ++ event ∷ []) it.split ∙ append_assoc it.before (it.event ∷ it.behind) (event ∷ []);
+    attaches = it.attaches;
+    disk = it.disk;
+    open_then = it.open_then;
+    reads = is ∙ ap (λ (w : HistoryWorld). read_by w.definitions who object (session_of w event) read) same ∙ ap (read_by last.definitions who object (session_of last event)) it.reads ∙ sym (read_on-push coming who object start it.behind event (latest_body integers it.disk.state.history object));
+  }
+    where
+      start : HistoryWorld
+      start = at (it.before ++ it.event ∷ [])
 
-  module _ (lines : List (List ℕ)) (l : List ℕ) (reads : AllRead lines) (who object : ℕ) (session : Session) (views : List View) (view : View) (attached : session.views ≡ Some views) (seen : slice_get views object ≡ Some view) where
-    abbrev IsReadNow : Type 0
-    IsReadNow = IsRead records coming (lines ++ l ∷ []) who object view.private
+      last : HistoryWorld
+      last = world_after (by_history coming) start it.behind
 
-    reached : IsReached records (at lines)
-    reached = always_reached records coming lines can
-
-    -- a line of another session, or of none
-    read_still : slice_get (at lines).sessions who ≡ Some session → read_by (at lines) who object (line_form l) view.private ≡ view.private → IsReadNow
-    read_still found same =
-        read_more lines l who object view.private view.private (reads who object session views view found attached seen) (sym same)
-
-    other_line : session_of (at lines) (line_form l) ≢ Some who → slice_get (line_answered (by_history coming) (at lines) (line_form l)).world.sessions who ≡ Some session → IsReadNow
-    other_line differs found =
-        read_still (line-had coming who session (at lines) (line_form l) reached.fits.paired differs found) (read_by-other (at lines) who object (line_form l) differs view.private)
-
-    own_line : (name : List ℕ) (command : Option Command) → line_form l ≡ line.Session name command → session_place (at lines) name ≡ who → session_place (at lines) name < 64 → slice_get (commanded (by_history coming) (with_session (closed (by_history coming) (at lines)) name) (session_place (at lines) name) command).world.sessions who ≡ Some session → (at (lines ++ l ∷ [])).shared ≡ (commanded (by_history coming) (with_session (closed (by_history coming) (at lines)) name) (session_place (at lines) name) command).world.shared → IsReadNow
-    own_line name command form own room found shared =
-        ⊎_elim came came_now (own_line-read coming records (at lines) reached name room command object session views view (ap (slice_get after.sessions) own ∙ found) attached seen)
-      where
-        after : World (OnDisk (Workspace Change))
-        after = (commanded (by_history coming) (with_session (closed (by_history coming) (at lines)) name) (session_place (at lines) name) command).world
-
-        came : CameFrom (at lines) (session_place (at lines) name) object (line.Session name command) view.private → IsReadNow
-        came from =
-            read_more lines l who object from.view.private view.private (reads who object from.session from.views from.view (ap (slice_get (at lines).sessions) (sym own) ∙ from.found) from.attached from.seen) (from.reads ∙ ap (λ place. read_by (at lines) place object (line.Session name command) from.view.private) own ∙ ap (λ form. read_by (at lines) who object form from.view.private) (sym form))
-
-        came_now : HasAttached (at lines) after (session_place (at lines) name) command object view.private → IsReadNow
-        came_now now = record {
-          before = lines;
-          line = l;
-          behind = [];
-          split = refl;
-          attaches = record { name = name; form = form ∙ ap (line.Session name) now.is; own = own; unattached = subst (λ it. ForSome (slice_get (at lines).sessions it) (λ session. session.views ≡ None)) own now.unattached };
-          disk = now.disk;
-          open_then = shared ∙ now.is_open;
-          reads = now.reads;
-        }
-
-    session_line : (name : List ℕ) (command : Option Command) → line_form l ≡ line.Session name command → slice_get (line_answered (by_history coming) (at lines) (line.Session name command)).world.sessions who ≡ Some session → (at (lines ++ l ∷ [])).shared ≡ (line_answered (by_history coming) (at lines) (line.Session name command)).world.shared → IsReadNow
-    session_line name command form found shared =
-        ⊎_elim mine (λ differs. other_line (λ same. differs (same_Some (session_place (at lines) name) who (ap (session_of (at lines)) (sym form) ∙ same))) (ap (λ it. slice_get (line_answered (by_history coming) (at lines) it).world.sessions who) form ∙ found)) (cases_eq (session_place (at lines) name) who)
-      where
-        open_world : World (OnDisk (Workspace Change))
-        open_world = closed (by_history coming) (at lines)
-
-        answer : Bool → World (OnDisk (Workspace Change))
-        answer room = (if room then commanded (by_history coming) (with_session open_world name) (session_place (at lines) name) command else refused_as_no_form no_session open_world).world
-
-        -- a session that is there is one of 64
-        few : slice_get (at lines).sessions who ≡ Some session → session_place (at lines) name ≡ who → session_place (at lines) name < 64
-        few there own = omega (arith, slice_get_within (at lines).sessions who session there, reached.fits.paired, reached.fits.few, own)
-
-        mine : session_place (at lines) name ≡ who → IsReadNow
-        mine own = by_room (nat_lt (session_place (at lines) name) 64) refl found shared
-          where
-            by_room : (room : Bool) → nat_lt (session_place (at lines) name) 64 ≡ room → slice_get (answer room).sessions who ≡ Some session → (at (lines ++ l ∷ [])).shared ≡ (answer room).shared → IsReadNow
-            by_room true is there shared = own_line name command form own (ltb-true (session_place (at lines) name) 64 is) there shared
-            by_room false is there shared =
-                absurd (omega (arith, ltb-false (session_place (at lines) name) 64 is, few there own))
-
-    by_form : (form : Line) → line_form l ≡ form → slice_get (line_answered (by_history coming) (at lines) form).world.sessions who ≡ Some session → (at (lines ++ l ∷ [])).shared ≡ (line_answered (by_history coming) (at lines) form).world.shared → IsReadNow
-    by_form (line.Session name command) is found shared = session_line name command is found shared
-    by_form line.Blank is found shared = other_line (λ same. none-some who (sym (ap (session_of (at lines)) is) ∙ same)) (ap (λ it. slice_get (line_answered (by_history coming) (at lines) it).world.sessions who) is ∙ found)
-    by_form line.Malformed is found shared = other_line (λ same. none-some who (sym (ap (session_of (at lines)) is) ∙ same)) (ap (λ it. slice_get (line_answered (by_history coming) (at lines) it).world.sessions who) is ∙ found)
-    by_form (line.Definition name) is found shared = other_line (λ same. none-some who (sym (ap (session_of (at lines)) is) ∙ same)) (ap (λ it. slice_get (line_answered (by_history coming) (at lines) it).world.sessions who) is ∙ found)
+      same : at events ≡ last
+      same =
+          ap at (it.split ∙ sym (append_assoc it.before (it.event ∷ []) it.behind)) ∙ world_after-append (by_history coming) (opening names records) (it.before ++ it.event ∷ []) it.behind
 
   reads_none : AllRead []
-  reads_none who object session views view found attached seen = absurd (none-some session found)
+  reads_none who object session views view found attached seen =
+      absurd (none-some views (sym (unattached (slice_get_first who session found)) ∙ attached))
+    where
+      unattached : session ≡ new_session who → session.views ≡ None
+      unattached same = ap (λ (it : Session). it.views) same
 
-  reads_more : (lines : List (List ℕ)) (l : List ℕ) → AllRead lines → AllRead (lines ++ l ∷ [])
-  reads_more lines l reads who object session views view found attached seen =
-      by_form lines l reads who object session views view attached seen (line_form l) refl (sym (ap (λ (w : World (OnDisk (Workspace Change))). slice_get w.sessions who) (at-push lines l)) ∙ found) (ap (λ (w : World (OnDisk (Workspace Change))). w.shared) (at-push lines l))
+      slice_get_first : (who : ℕ) (session : Session) → slice_get (at []).sessions who ≡ Some session → session ≡ new_session who
+      slice_get_first who session found = opening_sessions names records who session found
 
-  pub read_its_own : (lines : List (List ℕ)) → ReadItsOwn records coming lines
-  read_its_own = by_lines AllRead reads_none reads_more
+  reads_more : (events : List Event) (event : Event) → AllRead events → AllRead (events ++ event ∷ [])
+  reads_more events event reads who object session views view found attached seen =
+      ⊎_elim came now (reads_event names records coming events event can who object session views view (sym (ap (λ (w : HistoryWorld). slice_get w.sessions who) (at-push events event)) ∙ found) attached seen)
+    where
+      came : CameFrom coming (at events) event who object view.private → IsRead names records coming (events ++ event ∷ []) who object view.private
+      came from =
+          read_more events event who object from.view.private view.private (reads who object from.session from.views from.view from.found from.attached from.seen) from.reads
+
+      now : HasAttached coming (at events) event who object (answered (by_history coming) (at events) event).world.shared view.private → IsRead names records coming (events ++ event ∷ []) who object view.private
+      now it = record {
+        before = events;
+        event = event;
+        behind = [];
+        split = refl;
+        attaches = record { own = it.own; unattached = it.unattached };
+        disk = it.disk;
+        open_then = ap (λ (w : HistoryWorld). w.shared) (at-push events event) ∙ it.is_open;
+        reads = it.reads;
+      }
+
+  pub read_its_own : (events : List Event) → ReadItsOwn names records coming events
+  read_its_own = by_events AllRead reads_none reads_more

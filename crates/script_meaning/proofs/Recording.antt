@@ -21,15 +21,6 @@ use Rattle.aw_store.specs.Replay.{is_commit_among, can_replay, names_of, change_
 use Rattle.aw_store.specs.Images.{AreRecords}
 use Rattle.ses_step.specs.declared.session.View.{View}
 use Rattle.ses_step.specs.Sessions.{is_staged, change_of_view}
-use Rattle.script_meaning.specs.Outcomes.{Attempt}
-use Rattle.script_meaning.specs.Left.{settled_by, done_records}
-
--- ---- one more attempt
-
-pub done_records-append : (made more : List Attempt) → done_records (made ++ more) ≡ done_records made ++ done_records more
-done_records-append [] more = refl
-done_records-append (attempt ∷ made) more =
-    ap (λ rest. settled_by attempt.outcome attempt.attempted ++ rest) (done_records-append made more) ∙ sym (append_assoc (settled_by attempt.outcome attempt.attempted) (done_records made) (done_records more))
 
 -- ---- one more record
 

@@ -4,13 +4,13 @@ use Rattle.ses_step.specs.declared.line.Command.{Command}
 use Rattle.ses_step.specs.declared.line.Line.TheVariants as form
 use Rattle.ses_step.specs.Answers.{answer_of}
 use Rattle.ses_step.specs.Lines.{line_form}
-use Rattle.script_world.specs.Worlds.{line, Answered, name_at, answered_so, session_place, with_session, own_session, shared_of, closed, answered}
+use Rattle.script_world.specs.Worlds.{World, line, Answered, name_at, answered_so, session_place, with_session, own_session, shared_of, closed, answered}
 use Rattle.script_world.specs.Outcomes.{Outcome}
-use Rattle.script_meaning.specs.Language.{language, HistoryDisk, HistoryWorld, by_history}
+use Rattle.script_meaning.specs.Language.{language, HistoryWorld, by_history}
 use Rattle.script_meaning.specs.Turns.{Turn, turn}
 
 -- the world after a turn, and what is written of it
-abbrev pub with_turn : HistoryWorld → ℕ → Turn HistoryDisk → Answered language HistoryDisk
+abbrev pub with_turn : {S : Type 0} → World language S → ℕ → Turn S → Answered language S
 with_turn w who t =
     answered_so (name_at w.names who) (answer_of t.answer) (record w { shared = Some t.shared; sessions = slice_set w.sessions who t.session })
 

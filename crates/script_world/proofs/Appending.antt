@@ -3,7 +3,7 @@ use Rattle.std.specs.Prelude.{map}
 use Rattle.std.specs.Str.Lines.{strip_carriage_return}
 use Rattle.std.proofs.Common.{◌≡◌, ◌||◌, ℕ, Bool, true, false, cond, eqb, List, [], ◌∷◌, ◌++◌, refl, sym, ap, ◌∙◌, append_assoc, append-nil}
 use Rattle.script_world.specs.Script.{ended_lines, open_line}
-use Rattle.script_world.proofs.ScriptLaws.{ended_lines-push}
+use Rattle.script_world.proofs.ScriptLaws.{ended_lines-push, ended_more}
 use Rattle.script_world.specs.Meaning.{Meaning}
 use Rattle.script_world.specs.Worlds.{World, Machine, Event, line, answered, text_of, any_refused, is_refused, world_after, ended_events}
 
@@ -28,7 +28,7 @@ module _ {m : Meaning} {S : Type 0} (machine : Machine m S) where
   world_after-append w [] more = refl
   world_after-append w (event ∷ events) more = world_after-append (answered machine w event).world events more
 
-map-append : {A B : Type 0} (f : A → B) (xs ys : List A) → map f (xs ++ ys) ≡ map f xs ++ map f ys
+pub map-append : {A B : Type 0} (f : A → B) (xs ys : List A) → map f (xs ++ ys) ≡ map f xs ++ map f ys
 map-append f [] ys = refl
 map-append f (x ∷ xs) ys = ap (λ rest. f x ∷ rest) (map-append f xs ys)
 
@@ -51,3 +51,13 @@ module _ {m : Meaning} {S : Type 0} (machine : Machine m S) (w : World m S) wher
       by_end : (ends : Bool) → text_of machine w (cond ends (ended_events bytes ++ line (strip_carriage_return (open_line bytes)) ∷ []) (ended_events bytes)) ≡ text_of machine w (ended_events bytes) ++ cond ends (answered machine (world_after machine w (ended_events bytes)) (line (strip_carriage_return (open_line bytes)))).text []
       by_end true = text_of-append machine w (ended_events bytes) (line (strip_carriage_return (open_line bytes)) ∷ []) ∙ ap (λ text. text_of machine w (ended_events bytes) ++ text) (append-nil _)
       by_end false = sym (append-nil (text_of machine w (ended_events bytes)))
+
+-- more bytes add events behind those that ended
+pub record MoreEvents (bytes more : List ℕ) : Type 0 where
+  pub events : List Event
+  pub is : ended_events (bytes ++ more) ≡ ended_events bytes ++ events
+
+pub more_events : (bytes more : List ℕ) → MoreEvents bytes more
+more_events bytes more =
+    let it = ended_more bytes more in
+    record { events = map line it.lines; is = ap (map line) it.is ∙ map-append line (ended_lines bytes) it.lines }

@@ -73,10 +73,10 @@ module _ (is_fault : Refusal → Bool) (fault : Answer) where
 
       pub event_sees : (w : World m (OnDisk R S)) (event : Event) → Sees (faults_of w.shared) (answered (on_disk writing next machine) w event)
       event_sees w event = walk (on_disk writing next machine) w event (Sees (faults_of w.shared)) (record {
-        passes = λ after rests. mute (faults_of w.shared) (silent after) refl (same after rests.shared);
-        defines = λ lines definitions none is. omega arith;
-        refuses = λ after prefix refusal why rests. mute (faults_of w.shared) (refused_so prefix refusal after) (quiet_why w refusal why) (same after rests.shared);
-        turns = λ after who statement own rests may.
+        passes = λ after none rests. mute (faults_of w.shared) (silent after) refl (same after rests.shared);
+        defines = λ lines definitions of_no none is. omega arith;
+        refuses = λ after prefix refusal few why rests. mute (faults_of w.shared) (refused_so prefix refusal after) (quiet_why w refusal why) (same after rests.shared);
+        turns = λ after name who statement taken_up own rests may.
             subst (λ (before : ℕ). Sees before (settled (on_disk writing next machine) (commanded after (shared_of opens w) who statement))) opened-sees (commanded-sees after (shared_of opens w) who statement may.open_so);
       })
         where
@@ -130,10 +130,10 @@ module _ (is_fault : Refusal → Bool) (fault : Answer) where
 
       event_says : (w : World m (OnDisk R S)) (event : Event) → Says (answered (on_disk writing next machine) w event)
       event_says w event = walk (on_disk writing next machine) w event Says (record {
-        passes = λ after rests. mum (silent after) refl;
-        defines = λ lines definitions none is. mum (silent (with_definitions w definitions)) refl;
-        refuses = λ after prefix refusal why rests. mum (refused_so prefix refusal after) (quiet_why w refusal why);
-        turns = λ after who statement own rests may. commanded-says after (shared_of (on_disk writing next machine).opens w) who statement;
+        passes = λ after none rests. mum (silent after) refl;
+        defines = λ lines definitions of_no none is. mum (silent (with_definitions w definitions)) refl;
+        refuses = λ after prefix refusal few why rests. mum (refused_so prefix refusal after) (quiet_why w refusal why);
+        turns = λ after name who statement taken_up own rests may. commanded-says after (shared_of (on_disk writing next machine).opens w) who statement;
       })
 
       pub sees_faults : (w : World m (OnDisk R S)) (event : Event) → SeesFaults is_fault (on_disk writing next machine) fault w event

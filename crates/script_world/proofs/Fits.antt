@@ -6,8 +6,8 @@ use Rattle.std.proofs.lemmas.Bool.{ltb-true, ltb-false}
 use Rattle.std.proofs.lemmas.Option.{none-some, same_Some, slice_get-get_or}
 use Rattle.ses_report.specs.Reports.{Answer}
 use Rattle.script_world.specs.Meaning.{said, ask, under, Meaning}
-use Rattle.script_world.specs.Worlds.{World, Machine, Event, first_sessions, own_session, with_name, world_after}
-use Rattle.script_world.proofs.Moves.{MayTurn, Keeps, lifts}
+use Rattle.script_world.specs.Worlds.{World, Machine, Event, first_sessions, own_session, with_name, with_session, closed, world_after}
+use Rattle.script_world.proofs.Moves.{MayTurn, Keeps, taken_up-keeps, lifts}
 
 slice_get-set_cases : {X : Type 0} (xs : List X) (i j : ℕ) (y z : X) → slice_get (slice_set xs i y) j ≡ Some z → ((j ≡ i) × (z ≡ y)) ⊎ ((j ≢ i) × (slice_get xs j ≡ Some z))
 slice_get-set_cases [] i j y z is = absurd (none-some z is)
@@ -31,7 +31,7 @@ length-set (x ∷ xs) (suc i) y = ap suc (length-set xs i y)
 
 -- ---- sessions that no line has named
 
-first-session : (m : Meaning) (at : ℕ) (names : List (List ℕ)) (who : ℕ) (session : m.Session) → slice_get (first_sessions m at names) who ≡ Some session → session ≡ m.new_session (at + who)
+pub first-session : (m : Meaning) (at : ℕ) (names : List (List ℕ)) (who : ℕ) (session : m.Session) → slice_get (first_sessions m at names) who ≡ Some session → session ≡ m.new_session (at + who)
 first-session m at [] who session is = absurd (none-some session is)
 first-session m at (name ∷ names) who session is = by_room (nat_lt at 64) (λ who is. first-session m (at + 1) names who session is) who is
   where
@@ -182,3 +182,7 @@ module _ {m : Meaning} {S : Type 0} (machine : Machine m S) where
 
       pub worlds_fit : ((lines : List (List ℕ)) (text name : List ℕ) (statement : m.Statement) → m.form lines text ≡ under name statement → Spoken statement) → (w : World m S) (events : List Event) → WorldFits w → WorldFits (world_after machine w events)
       worlds_fit spoken w events it = lifts machine Spoken spoken WorldFits fits_kept w events it
+
+      -- the world in which a session's line is taken up
+      pub taken_up-fits : (w : World m S) (name : List ℕ) → WorldFits w → WorldFits (with_session (closed machine.opens w) name)
+      taken_up-fits w name it = taken_up-keeps machine WorldFits (λ who. Spoken) fits_kept w name it

@@ -80,6 +80,10 @@ module _ {m : Meaning} {S : Type 0} (machine : Machine m S) where
           is_open = is_open;
         }
 
+    -- the world in which a session's line is taken up
+    pub taken_up-keeps : (w : World m S) (name : List ℕ) → P w → P (with_session (closed machine.opens w) name)
+    taken_up-keeps w name it = (taken (closed machine.opens w) name refl (closed-keeps w it)).holds
+
     commanded-keeps : (w : World m S) (who : ℕ) (shared : S) (statement : m.Statement) → Own who statement → MayTurn w who shared → P w → P (settled machine (commanded w shared who statement)).world
     commanded-keeps w who shared statement own may it = by_begun (m.begin w.definitions (own_session w who) statement) refl
       where

@@ -67,10 +67,10 @@ module _ {m : Meaning} {S : Type 0} (Same : S → S → Type 0) where
 
       pub refusal_changes_nothing : (w : World m S) (event : Event) → RefusalChangesNothing Same machine w event
       refusal_changes_nothing w event = walk machine w event (Quiet w) (record {
-        passes = λ after rests refused. absurd (true≢false (sym refused));
-        defines = λ lines definitions none is refused. absurd (true≢false (sym refused));
-        refuses = λ after prefix refusal why rests refused. passed w after (at_rest after rests);
-        turns = λ after who statement own rests may. commanded-quiet w after (shared_of machine.opens w) who statement may.open_so (at_rest after rests);
+        passes = λ after none rests refused. absurd (true≢false (sym refused));
+        defines = λ lines definitions of_no none is refused. absurd (true≢false (sym refused));
+        refuses = λ after prefix refusal few why rests refused. passed w after (at_rest after rests);
+        turns = λ after name who statement taken_up own rests may. commanded-quiet w after (shared_of machine.opens w) who statement may.open_so (at_rest after rests);
       })
         where
           at_rest : (after : World m S) → Rests machine w after → Passed w after

@@ -5,15 +5,11 @@ use Rattle.ses_report.specs.Reports.{Answer}
 use Rattle.script_world.specs.Meaning.{Meaning}
 use Rattle.script_world.specs.Worlds.{World, Machine, Event, answered, text_of, any_refused, is_refused, world_after, with_shared}
 use Rattle.script_world.specs.Outcomes.{Outcome, Attempt, Writing, OnDisk, on_disk, among, by_list, used}
+use Rattle.script_world.specs.Running.{Tells, HasRun, AnswersEvent}
 use Rattle.script_world.proofs.Appending.{text_of-append, any_refused-append, world_after-append}
 use Rattle.script_world.proofs.Told.{list_told_once, or-false}
 
--- the outcomes from this attempt on are these
-abbrev pub Tells : (ℕ → Outcome) → ℕ → List Outcome → Type 0
-Tells next at [] = Unit {0}
-Tells next at (outcome ∷ outcomes) = (next at ≡ outcome) × Tells next (at + 1) outcomes
-
-tells-behind : (coming told : List Outcome) (at : ℕ) → length coming ≡ at → Tells (among (coming ++ told)) at told
+pub tells-behind : (coming told : List Outcome) (at : ℕ) → length coming ≡ at → Tells (among (coming ++ told)) at told
 tells-behind coming [] at is = tt
 tells-behind coming (outcome ∷ told) at is =
     let longer : (coming ++ outcome ∷ []) ++ told ≡ coming ++ outcome ∷ told = append_assoc coming (outcome ∷ []) told in
@@ -23,22 +19,9 @@ tells-behind coming (outcome ∷ told) at is =
     seen [] told at is = ap (among (outcome ∷ told)) (sym is)
     seen (first ∷ coming) told at is = ap (among (first ∷ (coming ++ outcome ∷ told))) (sym is) ∙ seen coming told (length coming) refl
 
--- the program has a state of its own, which with the attempts so far stands for one of the machine
+-- one more event
 module _ {m : Meaning} {R S T : Type 0} (writing : Writing m R) (machine : Machine m S) (held : Option R → List (Attempt R) → T → OnDisk R S) where
-  pub record HasRun (start : World m (OnDisk R S)) (events : List Event) (coming : List Outcome) (opened : Option R) (made : List (Attempt R)) (text : List ℕ) (refused : Bool) (w : World m T) : Type 0 where
-    pub world : world_after (by_list writing machine coming) start events ≡ with_shared (held opened made) w
-    pub as_many : length made ≡ length coming
-    pub learnt : used (with_shared (held opened made) w).shared ≤ length coming
-    pub due : text_of (by_list writing machine coming) start events ≡ text
-    pub refuses : any_refused (by_list writing machine coming) start events ≡ refused
-
-  -- an event was answered, which made and told so many more attempts
-  pub record AnswersEvent (opened after : Option R) (made more : List (Attempt R)) (told : List Outcome) (event : Event) (answer : Option Answer) (text : List ℕ) (old new : World m T) : Type 0 where
-    pub answers : (next : ℕ → Outcome) → Tells next (length made) told → answered (on_disk writing next machine) (with_shared (held opened made) old) event ≡ record { answer = answer; text = text; world = with_shared (held after (made ++ more)) new }
-    pub as_many : length more ≡ length told
-    pub learnt : used (with_shared (held after (made ++ more)) new).shared ≤ length (made ++ more)
-
-  pub runs_on : (start : World m (OnDisk R S)) (events : List Event) (coming told : List Outcome) (opened after : Option R) (made more : List (Attempt R)) (text own : List ℕ) (refused : Bool) (event : Event) (answer : Option Answer) (old new : World m T) → HasRun start events coming opened made text refused old → AnswersEvent opened after made more told event answer own old new → HasRun start (events ++ event ∷ []) (coming ++ told) after (made ++ more) (text ++ own) (refused || is_refused answer) new
+  pub runs_on : (start : World m (OnDisk R S)) (events : List Event) (coming told : List Outcome) (opened after : Option R) (made more : List (Attempt R)) (text own : List ℕ) (refused : Bool) (event : Event) (answer : Option Answer) (old new : World m T) → HasRun writing machine held start events coming opened made text refused old → AnswersEvent writing machine held opened after made more told event answer own old new → HasRun writing machine held start (events ++ event ∷ []) (coming ++ told) after (made ++ more) (text ++ own) (refused || is_refused answer) new
   runs_on start events coming told opened after made more text own refused event answer old new run it =
       let all = by_list writing machine (coming ++ told) in
       let same = list_told_once writing machine start coming told events (subst (λ (w : World m (OnDisk R S)). used w.shared ≤ length coming) (sym run.world) run.learnt) in

@@ -5,3 +5,4 @@ pub mod Outcomes
 pub mod Left
 pub mod Laws
 pub mod Faults
+pub mod Running

@@ -1,5 +1,4 @@
 ghost use Rattle.std.specs.Prelude.{◌≡◌, ◌++◌, OnOk, OnErr};
-ghost use Rattle.std.proofs.Common.{append-nil};
 ghost use Rattle.aw_cell.specs.CellText.{cell_text};
 ghost use Rattle.ses_report.specs.Reports.{line_under};
 ghost use Rattle.ses_step.specs.Answers.{answer_line, is_refusal};
@@ -45,7 +44,7 @@ fn append_cell(
 /// Appends the line of an answer: the prefix, which is a session's name or `*`, the answer's text
 /// and a LF (docs/LANGUAGE.md, "Texts of cells" and "Refusals"). The only error is want of memory;
 /// then nothing was appended.
-#[tactic(auto, using(append-nil))]
+#[tactic(auto, using(crate::proofs::AnswerLines::one_line))]
 pub fn append_line(
     alloc: Global,
     out: &mut Vec<u8>,

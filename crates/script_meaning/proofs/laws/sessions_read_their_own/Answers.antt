@@ -12,4 +12,4 @@ pub returns-clause-shown : goal.returns-clause-shown
 returns-clause-shown c = shows_what_is_read
 
 pub returns-clause-since : goal.returns-clause-since
-returns-clause-since c records coming lines can = read_its_own records coming can lines
+returns-clause-since c names records coming events can = read_its_own names records coming can events
