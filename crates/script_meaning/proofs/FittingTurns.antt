@@ -3,7 +3,7 @@ use Rattle.std.specs.Prelude.{◌≡◌, ◌<◌, ◌≤◌, ◌==◌, ◌⊎◌
 use Rattle.std.specs.Option.{option_map}
 use Rattle.std.proofs.Common.{◌∙◌, ap, sym, subst, subst₂, inl, inr, ⊎_elim, arith}
 use Rattle.std.proofs.lemmas.Bool.{eqb-true, leb-false, ltb-false, true≢false}
-use Rattle.std.proofs.lemmas.Option.{none-some, same_Some}
+use Rattle.std.proofs.lemmas.Option.{slice_get_within, none-some, same_Some}
 use Rattle.aw_cell.specs.declared.cell.Cell.{Cell}
 use Rattle.aw_cell.specs.declared.cell.Cell.TheVariants.{Int}
 use Rattle.mv_core.specs.declared.entry.Change.{Change}
@@ -31,7 +31,7 @@ use Rattle.script_meaning.specs.Language.{history_machine}
 use Rattle.script_meaning.specs.Fit.{is_value, ViewFits, ViewsFit, IsAttached, SharedFits}
 use Rattle.script_meaning.proofs.Elements.{find-passes, find-fails}
 use Rattle.script_meaning.proofs.Fitting.{number-le-latest, changes_in, committed, IsFree, granted_to}
-use Rattle.script_meaning.proofs.FittingSessions.{ViewsFit-mapped, ViewsFit-set, slice_get-standing, ViewsFit-seen, unchanged, attached_alone, views_fit, within, granted, committed_fits}
+use Rattle.script_meaning.proofs.FittingSessions.{slice_get-standing}
 
 -- ---- replies
 

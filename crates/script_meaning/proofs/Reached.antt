@@ -139,10 +139,10 @@ module _ (records : List Decoded) (next : ℕ → Outcome) (w : HistoryWorld) (i
 
   -- ---- the records that are settled
 
-  record MatchSo (shared : Option HistoryDisk) : Type 0 where
-    opens : CanBeOpened (settled_records records (attempts_of shared))
-    stand_for : ForSome shared (λ disk. StandFor (settled_records records (attempts_of shared)) w.definitions disk.state)
-    unopened : shared ≡ None → settled_records records (attempts_of shared) ≡ []
+  pub record MatchSo (shared : Option HistoryDisk) : Type 0 where
+    pub opens : CanBeOpened (settled_records records (attempts_of shared))
+    pub stand_for : ForSome shared (λ disk. StandFor (settled_records records (attempts_of shared)) w.definitions disk.state)
+    pub unopened : shared ≡ None → settled_records records (attempts_of shared) ≡ []
 
   pub match_so : CanBeOpened records → MatchSo w.shared
   match_so can = by_shared w.shared refl
@@ -210,7 +210,7 @@ always_end names records coming events can = by_shared after.shared refl
 
     none_defined : after.shared ≡ None → after.definitions ≡ []
     none_defined none =
-        ap (λ (w : HistoryWorld). w.definitions) same ∙ by_any before.definitions (sym (ap (λ (w : HistoryWorld). w.shared) same) ∙ none)
+        ap (λ (w : HistoryWorld). w.definitions) same ∙ by_any before.definitions refl (sym (ap (λ (w : HistoryWorld). w.shared) same) ∙ none)
       where
         before : HistoryWorld
         before = world_at names records coming events
@@ -221,9 +221,9 @@ always_end names records coming events can = by_shared after.shared refl
         same : after ≡ ended before.definitions
         same = world_after-append (by_history coming) (opening names records) events (script_ends ∷ [])
 
-        by_any : (d : List (List ℕ)) → (ended d).shared ≡ None → (ended d).definitions ≡ []
-        by_any [] none = refl
-        by_any (name ∷ d) none = absurd (none-some _ (sym none))
+        by_any : (d : List (List ℕ)) → before.definitions ≡ d → (ended d).shared ≡ None → (ended d).definitions ≡ []
+        by_any [] is none = is
+        by_any (name ∷ d) is none = absurd (none-some _ (sym none))
 
     by_shared : (shared : Option HistoryDisk) → after.shared ≡ shared → unwrap_or (names_of (settled_records records (attempts names records coming all_events))) [] ≡ after.definitions
     by_shared None none = ap (λ (those : List Decoded). unwrap_or (names_of those) []) (matches.unopened none) ∙ sym (none_defined none)

@@ -103,7 +103,7 @@ module _ (names : List (List ℕ)) (records : List Decoded) (coming : List Outco
   few session found = omega (arith, slice_get_within w.sessions who session found, (always_fits names records coming events can).paired)
 
   module _ (after : HistoryWorld) (rests : Rests (by_history coming) w after) (disk : HistoryDisk) (is_open : after.shared ≡ Some disk) (fits : SharedFits after.definitions after.sessions disk.state) (here : who < length after.sessions) (own : Command) (is : session_of w event ≡ Some (who, Some own)) where
-    s : Session
+    abbrev s : Session
     s = own_session after who
 
     found_here : slice_get after.sessions who ≡ Some s
@@ -112,7 +112,7 @@ module _ (names : List (List ℕ)) (records : List Decoded) (coming : List Outco
     by_number : slice_get after.sessions s.who ≡ Some s
     by_number = ap (slice_get after.sessions) (fits.each who s found_here).number ∙ found_here
 
-    t : Turn HistoryDisk
+    abbrev t : Turn HistoryDisk
     t = turn (by_history coming) after.definitions after.names disk s own
 
     none_attached : s.views ≡ None → ForSome (slice_get w.sessions who) (λ session. session.views ≡ None)
@@ -173,7 +173,7 @@ module _ (names : List (List ℕ)) (records : List Decoded) (coming : List Outco
   of_none none own is = absurd (none-some own (sym none ∙ is))
 
   module _ (after : HistoryWorld) (name : List ℕ) (place : ℕ) (taken_up : after ≡ with_session (closed (by_history coming).opens w) name) (rests : Rests (by_history coming) w after) (may : MayTurn (by_history coming) after place (shared_of (by_history coming).opens w)) where
-    disk : HistoryDisk
+    abbrev disk : HistoryDisk
     disk = shared_of (by_history coming).opens w
 
     stands : WorldStands records (among coming) after
@@ -187,11 +187,11 @@ module _ (names : List (List ℕ)) (records : List Decoded) (coming : List Outco
     fits = (world_fits records (among coming) after stands).shared disk may.open_so
 
     by_statement : (statement : Option Command) → session_of w event ≡ Some (place, statement) → Now (settled (by_history coming) (commanded after disk place statement))
-    by_statement None is session views view found attached seen =
-        inl (record { session = session; views = views; view = view; found = was_there coming w event who object after rests session views attached (⊎_elim set (λ other. other.1) (slice_get-set_cases after.sessions place who (own_session after place) session found)); attached = attached; seen = seen; reads = sym (ap (λ it. read_by w.definitions who object it view.private) is) })
+    by_statement None is = λ session views view found attached seen.
+        inl (record { session = session; views = views; view = view; found = was_there coming w event who object after rests session views attached (⊎_elim (set session) (λ other. other.1) (slice_get-set_cases after.sessions place who (own_session after place) session found)); attached = attached; seen = seen; reads = sym (ap (λ it. read_by w.definitions who object it view.private) is) })
       where
-        set : (who ≡ place) × (session ≡ own_session after place) → slice_get after.sessions who ≡ Some session
-        set same =
+        set : (session : Session) → (who ≡ place) × (session ≡ own_session after place) → slice_get after.sessions who ≡ Some session
+        set session same =
             ap (slice_get after.sessions) same.0 ∙ slice_get-get_or after.sessions place (new_session place) here ∙ ap Some (sym same.1)
     by_statement (Some own) is = subst Now (sym (commanded-turn (by_history coming) after place disk may.open_so own)) (⊎_elim mine other (cases_eq place who))
       where

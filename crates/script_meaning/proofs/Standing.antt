@@ -1,5 +1,5 @@
 -- The machine over the objects as they stand answers as that over the commits and the owners.
-use Rattle.std.specs.Prelude.{◌≡◌, ℕ, List, Option, None, Some, refl}
+use Rattle.std.specs.Prelude.{◌≡◌, ℕ, List, [], Option, None, Some, refl}
 use Rattle.std.specs.Option.{option_map}
 use Rattle.std.proofs.Common.{◌∙◌, ap, sym}
 use Rattle.aw_cell.specs.declared.cell.Cell.{Cell}

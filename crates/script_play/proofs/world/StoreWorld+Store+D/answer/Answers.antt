@@ -1,7 +1,5 @@
-use Rattle.std.proofs.Common.{subst, sym}
+use Rattle.std.proofs.Common.{◌∙◌, ap, subst, sym, Ok, None, Some}
+use Rattle.script_play.specs.StoreWorlds.{refused_response}
 use Rattle.script_play.specs.Turning.{DefinesName}
-use Rattle.script_play.proofs.Lines.{line_defines-name}
+use Rattle.script_play.proofs.Lines.{form_as, blank_answers, malformed_answers, joins_answers, line_defines-name}
 use Rattle.script_play.proofs.world.StoreWorld+Store+D.answer.Goals as goal
-
-pub respond-requires-clause-named : goal.respond-requires-clause-named
-respond-requires-clause-named g c = subst DefinesName (sym c.in-Ok.ensures) (line_defines-name c.args.line.now)
