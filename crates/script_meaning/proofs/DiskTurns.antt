@@ -20,6 +20,7 @@ use Rattle.aw_cell.specs.declared.cell.Cell.TheVariants.{Int}
 use Rattle.ses_report.specs.Refusals.{disk_fault, not_attached, already_attached}
 use Rattle.ses_step.specs.Sessions.{begun, located, with_view, updated, commit_asked, is_staged, change_of_view}
 use Rattle.script_world.specs.Worlds.{Machine}
+use Rattle.script_meaning.proofs.Begins.{asked_by}
 use Rattle.script_meaning.specs.Turns.{Turn, replied, turn_from, turn}
 use Rattle.script_world.specs.Outcomes.{Outcome, done, faulted, OnDisk, ended_so, written, on_disk}
 use Rattle.script_meaning.specs.Language.{language, store_writing, history_machine, by_history, HistoryDisk}
@@ -67,66 +68,6 @@ module _ {S : Type 0} (machine : Machine language S) (next : ℕ → Outcome) (d
           same_asked : (other asked : Entry) → Ask asked ≡ Ask other → other ≡ asked
           same_asked other asked is = cc
 
--- ---- what a session asks
-
--- a commit has a change for each staged view
-abbrev pub IsOfViews : Session → Entry → Type 0
-IsOfViews session (entry.Commit who changes) = (views : List View) × (session.views ≡ Some views) × (changes ≡ map change_of_view (filter is_staged views))
-IsOfViews session (entry.Attach who) = Unit {0}
-IsOfViews session (entry.Acquire who object number) = Unit {0}
-
--- a session that asks is as it was
-abbrev pub IsAskedBy : Session → Begun × Session → Type 0
-IsAskedBy session (Said answer, after) = Unit {0}
-IsAskedBy session (Ask asked, after) = (after ≡ session) × IsOfViews session asked
-
-module _ (definitions : List (List ℕ)) (session : Session) where
-  attach_asked : (views : Option (List View)) → IsAskedBy session (elim views [ None ↦ (Ask (entry.Attach session.who), session) | Some views ↦ (Said (Refused already_attached), session) ])
-  attach_asked None = (refl, tt)
-  attach_asked (Some views) = tt
-
-  acquire_asked : (found : Result View Refusal) → IsAskedBy session (elim found [ Err refusal ↦ (Said (Refused refusal), session) | Ok view ↦ (Ask (entry.Acquire session.who view.object view.number), session) ])
-  acquire_asked (Err refusal) = tt
-  acquire_asked (Ok view) = (refl, tt)
-
-  assign_asked : (value : ℤ) (found : Result View Refusal) → IsAskedBy session (elim found [ Err refusal ↦ (Said (Refused refusal), session) | Ok view ↦ (Said Done, with_view session (record view { private = Int value })) ])
-  assign_asked value (Err refusal) = tt
-  assign_asked value (Ok view) = tt
-
-  update_asked : (views : Option (List View)) → IsAskedBy session (elim views [ None ↦ (Said (Refused not_attached), session) | Some views ↦ (Said Done, record session { views = Some (map updated views) }) ])
-  update_asked None = tt
-  update_asked (Some views) = tt
-
-  commit_asked-views : (views : List View) (changes : List Change) → session.views ≡ Some views → changes ≡ map change_of_view (filter is_staged views) → IsAskedBy session (commit_asked session changes)
-  commit_asked-views views [] attached is = tt
-  commit_asked-views views (change ∷ changes) attached is = (refl, (views, attached, is))
-
-  commits_asked : (views : Option (List View)) → session.views ≡ views → IsAskedBy session (elim views [ None ↦ (Said (Refused not_attached), session) | Some views ↦ commit_asked session (map change_of_view (filter is_staged views)) ])
-  commits_asked None is = tt
-  commits_asked (Some views) is = commit_asked-views views (map change_of_view (filter is_staged views)) is refl
-
-  show_asked : (found : Result View Refusal) → IsAskedBy session (elim found [ Err refusal ↦ (Said (Refused refusal), session) | Ok view ↦ (Said (Shown view.private), session) ])
-  show_asked (Err refusal) = tt
-  show_asked (Ok view) = tt
-
-  pub is_asked_by : (command : Command) → IsAskedBy session (begun definitions session command)
-  is_asked_by command.Attach = attach_asked session.views
-  is_asked_by (command.Acquire name) = acquire_asked (located definitions session name)
-  is_asked_by (command.Assign name value) = assign_asked value (located definitions session name)
-  is_asked_by command.Update = update_asked session.views
-  is_asked_by command.Commit = commits_asked session.views refl
-  is_asked_by (command.Show name) = show_asked (located definitions session name)
-
-  pub asked-same : (command : Command) (asked : Entry) → (begun definitions session command).0 ≡ Ask asked → (begun definitions session command).1 ≡ session
-  asked-same command asked is =
-      let b = begun definitions session command in
-      (subst (λ first. IsAskedBy session (first, b.1)) is (is_asked_by command)).0
-
-  pub asked-of_views : (command : Command) (asked : Entry) → (begun definitions session command).0 ≡ Ask asked → IsOfViews session asked
-  asked-of_views command asked is =
-      let b = begun definitions session command in
-      (subst (λ first. IsAskedBy session (first, b.1)) is (is_asked_by command)).1
-
 -- ---- a command's turn
 
 -- what the session asks, and whether that writes a record
@@ -147,7 +88,7 @@ module _ {S : Type 0} (machine : Machine language S) (next : ℕ → Outcome) (d
       P (turn (on_disk store_writing next machine) definitions names disk session command)
   turn-cases unwritten_case done_case faulted_case =
       let b = begun definitions session command in
-      turn_from-cases machine next definitions names disk P b.0 b.1 (λ none. unwritten_case (λ asked is. record { asks = is; is = none asked is })) (λ asked is writing. done_case asked (record { asks = is; is = writing })) (λ asked is writing. subst (λ it. P (faulted_turn disk it asked)) (sym (asked-same definitions session command asked is)) (faulted_case asked (record { asks = is; is = writing })))
+      turn_from-cases machine next definitions names disk P b.0 b.1 (λ none. unwritten_case (λ asked is. record { asks = is; is = none asked is })) (λ asked is writing. done_case asked (record { asks = is; is = writing })) (λ asked is writing. subst (λ it. P (faulted_turn disk it asked)) (sym (asked_by definitions session command asked is).0) (faulted_case asked (record { asks = is; is = writing })))
 
 -- ---- the machine over commits and owners
 

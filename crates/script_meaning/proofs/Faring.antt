@@ -1,7 +1,7 @@
 -- One attempt more, and what a crash may leave of its disk at any moment.
 use Rattle.std.specs.Prelude.{◌≡◌, ◌<◌, ◌≤◌, ◌+◌, ◌⊎◌, ◌++◌, ℕ, Bool, true, false, cond, List, [], ◌∷◌, length, take, nat_le, Option, None, Some, slice_get, refl}
 use Rattle.std.specs.Option.{ForSome, option_to_list}
-use Rattle.std.proofs.Common.{◌∙◌, ap, sym, subst, inl, inr, ⊎_elim, arith, append-nil, length-append}
+use Rattle.std.proofs.Common.{◌∙◌, ap, sym, subst, inl, inr, ⊎_elim, arith, append-nil, length-append, take_all}
 use Rattle.std.proofs.lemmas.Bool.{cases_lt, le-leb, lt-leb}
 use Rattle.std.proofs.lemmas.List.{take-append-le}
 use Rattle.std.proofs.lemmas.List.Sums.{sum_by-append, count_by-le-length}
@@ -13,7 +13,7 @@ use Rattle.script_world.specs.Outcomes.{Attempt}
 use Rattle.script_world.specs.Left.{settled_records, IsInDoubt, IsBegun}
 use Rattle.script_meaning.specs.SameRecords.{SameRecords}
 use Rattle.script_meaning.specs.Faring.{Rise, ended_by, HoldsLeft, Fares}
-use Rattle.script_meaning.proofs.Elements.{slice_get-append, take-all}
+use Rattle.script_world.proofs.Elements.{slice_get-append}
 
 -- ---- moments
 
@@ -122,7 +122,7 @@ module _ (opened : List Decoded) (made : List (Attempt Decoded)) (ends : List �
   meanwhile : (moment : ℕ) (image : List ℕ) → before ≤ moment → moment < now → since moment image → HoldsLeft SameRecords opened more (ended_by moment those_ends) image
   meanwhile moment image from below left =
       let counts : ended_by moment those_ends ≡ length made = omega (arith, ended_by-push moment ends now false (lt-leb now moment below), all_ended moment start ends before fares.rise from, fares.as_many) in
-      let front : take (length made) more ≡ made = take-append-le (length made) made (attempt ∷ []) (omega arith) ∙ take-all made in
+      let front : take (length made) more ≡ made = take-append-le (length made) made (attempt ∷ []) (omega arith) ∙ take_all (length made) made (omega arith) in
       subst (λ count. HoldsLeft SameRecords opened more count image) (sym counts)
       (⊎_elim (store_left opened made more (length made) front image records doubt fares.are_settled fares.in_doubt) (λ longer. one_left opened made more (length made) front image records attempt.attempted fares.are_settled longer (inl (record { attempt = attempt; comes = slice_get-last made attempt; is = refl }))) (passed.only moment image from (omega (arith, below)) left))
 
@@ -130,7 +130,7 @@ module _ (opened : List Decoded) (made : List (Attempt Decoded)) (ends : List �
   afterwards : (image : List ℕ) → since now image → HoldsLeft SameRecords opened more (ended_by now those_ends) image
   afterwards image left =
       let counts : ended_by now those_ends ≡ length more = omega (arith, ended_by-push now ends now true (le-leb now now (omega arith)), all_ended now start ends before fares.rise passed.later, fares.as_many, length-append made (attempt ∷ [])) in
-      subst (λ count. HoldsLeft SameRecords opened more count image) (sym counts) (store_left opened more more (length more) (take-all more) image new_records new_doubt ended.are_settled ended.in_doubt (ended.images image left))
+      subst (λ count. HoldsLeft SameRecords opened more count image) (sym counts) (store_left opened more more (length more) (take_all (length more) more (omega arith)) image new_records new_doubt ended.are_settled ended.in_doubt (ended.images image left))
 
   pub fares_attempt : Fares SameRecords opened (made ++ attempt ∷ []) (ends ++ now ∷ []) start now since new_records new_doubt
   fares_attempt = record {

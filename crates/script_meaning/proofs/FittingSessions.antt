@@ -20,7 +20,8 @@ use Rattle.ses_step.specs.declared.session.Session.{Session}
 use Rattle.ses_step.specs.declared.session.View.{View}
 use Rattle.ses_step.specs.Sessions.{seen, change_of_view, committed_view}
 use Rattle.script_meaning.specs.Fit.{is_value, ViewFits, ViewsFit, SessionFits, IsAttached, SharedFits}
-use Rattle.script_meaning.proofs.Elements.{slice_get-map_from, slice_get-map_range, slice_get-set_cases, slice_get-set_same, slice_get-set_other}
+use Rattle.script_world.proofs.Elements.{slice_get-set_cases, slice_get-set_other}
+use Rattle.script_meaning.proofs.Elements.{slice_get-map_from, slice_get-map_range, slice_get-set_same}
 use Rattle.script_meaning.proofs.Fitting.{changes_in, change_of-view, change_of-from, committed, ViewFits-passed, ViewFits-committed, IsFree, granted_to, owner_of-same, owner_of-other, ViewFits-not_granted, ViewFits-granted_to_another, ViewFits-granted}
 
 -- ---- the views of a session

@@ -76,7 +76,7 @@ own_quiet refusal own =
 gentle : (d : List (List ℕ)) (s : Session) (statement : Option Command) → Gentle s (begin d s statement)
 gentle d s None = (refl, λ refused. refl)
 gentle d s (Some command) =
-    begins d s (λ b. Gentle s (begun_of b)) (λ refusal own. (own_quiet refusal own, λ refused. refl)) (λ it. refl) (λ moved. (refl, λ refused. absurd (true≢false (sym refused)))) (λ cell. (refl, λ refused. absurd (true≢false (sym refused)))) command
+    begins d s command (λ b. Gentle s (begun_of b)) (λ refusal own. (own_quiet refusal own, λ refused. refl)) (λ it asked. refl) (refl, λ refused. refl) (λ name value is views at view attached found. (refl, λ refused. absurd (true≢false (sym refused)))) (λ views attached. (refl, λ refused. absurd (true≢false (sym refused)))) (λ cell. (refl, λ refused. refl))
 
 gentle_said : (d : List (List ℕ)) (s : Session) (statement : Option Command) (answer : report.Answer) (after : Session) → begin d s statement ≡ world.said answer after → Gentle s (world.said answer after)
 gentle_said d s statement answer after is = subst (Gentle s) is (gentle d s statement)

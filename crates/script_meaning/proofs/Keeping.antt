@@ -32,7 +32,8 @@ use Rattle.ses_step.specs.Sessions.{new_session, seen, updated, is_staged, chang
 use Rattle.script_meaning.specs.Fit.{is_value, ViewFits, ViewsFit, SessionFits}
 use Rattle.script_meaning.proofs.Fitting.{number-le-latest, changes_in, change_of-view, change_of-from, committed, ViewFits-passed, ViewFits-committed, IsFree, granted_to, owner_of-same, owner_of-other, ViewFits-not_granted, ViewFits-granted_to_another, ViewFits-granted}
 use Rattle.script_meaning.proofs.FittingSessions.{ViewsFit-mapped, ViewsFit-set, ViewsFit-seen, slice_get-standing}
-use Rattle.script_meaning.proofs.FittingTurns.{MayGrant, acquire_reply-cases, commit_reply-cases, located-cases, number-small, AssignsInteger, granted_latest}
+use Rattle.script_meaning.proofs.FittingTurns.{MayGrant, acquire_reply-cases, commit_reply-cases, number-small, AssignsInteger, granted_latest}
+use Rattle.script_meaning.proofs.Begins.{AskedOf, begins}
 use Rattle.ses_report.specs.declared.refusal.Refusal.{Refusal}
 use Rattle.script_world.specs.Meaning as world
 use Rattle.aw_codec.specs.declared.record.Decoded.{Decoded}
@@ -69,45 +70,6 @@ Spoken (Some command) = AssignsInteger command
 
 -- ---- what a session asks
 
-abbrev pub AskedOf : Session → Entry → Type 0
-AskedOf s (entry.Attach who) = (who ≡ s.who) × (s.views ≡ None)
-AskedOf s (entry.Acquire who object number) =
-    (views : List View) × (view : View) × (at : ℕ) × (who ≡ s.who) × (s.views ≡ Some views) × (slice_get views at ≡ Some view) × (object ≡ view.object) × (number ≡ view.number)
-AskedOf s (entry.Commit who []) = ⊥
-AskedOf s (entry.Commit who (change ∷ changes)) = (views : List View) × (who ≡ s.who) × (s.views ≡ Some views) × (change ∷ changes ≡ changes_in views)
-
-module _ (d : List (List ℕ)) (s : Session) (P : Begun × Session → Type 0)
-    (says : (answer : Answer) → P (Said answer, s))
-    (asked : (it : Entry) → AskedOf s it → P (Ask it, s))
-    (assigned : (value : ℤ) → is_value (Int value) ≡ true → (views : List View) (at : ℕ) (view : View) → s.views ≡ Some views → slice_get views at ≡ Some view → P (Said Done, with_view s (record view { private = Int value })))
-    (moved : (views : List View) → s.views ≡ Some views → P (Said Done, record s { views = Some (map updated views) })) where
-  attach : (views : Option (List View)) → s.views ≡ views → P (elim views [ None ↦ (Ask (entry.Attach s.who), s) | Some views ↦ (Said (Refused already_attached), s) ])
-  attach None is = asked (entry.Attach s.who) (refl, is)
-  attach (Some views) is = says (Refused already_attached)
-
-  update : (views : Option (List View)) → s.views ≡ views → P (elim views [ None ↦ (Said (Refused not_attached), s) | Some views ↦ (Said Done, record s { views = Some (map updated views) }) ])
-  update None is = says (Refused not_attached)
-  update (Some views) is = moved views is
-
-  ask_commit : (views : List View) → s.views ≡ Some views → (changes : List Change) → changes_in views ≡ changes → P (commit_asked s changes)
-  ask_commit views is [] none = says Done
-  ask_commit views is (change ∷ changes) made = asked (entry.Commit s.who (change ∷ changes)) (views, refl, is, sym made)
-
-  commit : (views : Option (List View)) → s.views ≡ views → P (elim views [ None ↦ (Said (Refused not_attached), s) | Some views ↦ commit_asked s (map change_of_view (filter is_staged views)) ])
-  commit None is = says (Refused not_attached)
-  commit (Some views) is = ask_commit views is (changes_in views) refl
-
-  begun-cases : (own : Command) → AssignsInteger own → P (begun d s own)
-  begun-cases command.Attach value = attach s.views refl
-  begun-cases (command.Acquire name) value =
-      located-cases (λ r. P (elim r [ Err refusal ↦ (Said (Refused refusal), s) | Ok view ↦ (Ask (entry.Acquire s.who view.object view.number), s) ])) d s name (λ refusal. says (Refused refusal)) (λ views object view place attached found. asked (entry.Acquire s.who view.object view.number) (views, view, object, refl, attached, found, refl, refl))
-  begun-cases (command.Assign name value) fits =
-      located-cases (λ r. P (elim r [ Err refusal ↦ (Said (Refused refusal), s) | Ok view ↦ (Said Done, with_view s (record view { private = Int value })) ])) d s name (λ refusal. says (Refused refusal)) (λ views object view place attached found. assigned value fits views object view attached found)
-  begun-cases command.Update value = update s.views refl
-  begun-cases command.Commit value = commit s.views refl
-  begun-cases (command.Show name) value =
-      located-cases (λ r. P (elim r [ Err refusal ↦ (Said (Refused refusal), s) | Ok view ↦ (Said (Shown view.private), s) ])) d s name (λ refusal. says (Refused refusal)) (λ views object view place attached found. says (Shown view.private))
-
 -- a session that asks is as it was
 abbrev Asks : Session → world.Begun Entry Session Waiting → Type 0
 Asks s (world.said answer after) = Unit {0}
@@ -116,7 +78,7 @@ Asks s (world.ask it waiting) = (waiting ≡ (s, it)) × AskedOf s it
 asks : (d : List (List ℕ)) (s : Session) (statement : Option Command) → Spoken statement → Asks s (begin d s statement)
 asks d s None spoken = tt
 asks d s (Some command) spoken =
-    begun-cases d s (λ b. Asks s (begun_of b)) (λ answer. tt) (λ it asked. (refl, asked)) (λ _ _ _ _ _ _ _. tt) (λ _ _. tt) command spoken
+    begins d s command (λ b. Asks s (begun_of b)) (λ refusal own. tt) (λ it asked. (refl, asked)) tt (λ name value is views at view attached found. tt) (λ views attached. tt) (λ cell. tt)
 
 pub asked_so : (d : List (List ℕ)) (s : Session) (statement : Option Command) (it : Entry) (waiting : Waiting) → Spoken statement → begin d s statement ≡ world.ask it waiting → (waiting ≡ (s, it)) × AskedOf s it
 asked_so d s statement it waiting spoken is = subst (Asks s) is (asks d s statement spoken)
@@ -138,7 +100,7 @@ module _ (d names : List (List ℕ)) (shared : Workspace Change) (count who : �
   begins_fit : (statement : Option Command) → Spoken statement → FitsAfter d shared who (begin d s statement)
   begins_fit None spoken = fits
   begins_fit (Some own) spoken =
-      begun-cases d s (λ b. FitsAfter d shared who (begun_of b)) (λ answer. fits) (λ it asked. tt) assigned moved own spoken
+      begins d s own (λ b. FitsAfter d shared who (begun_of b)) (λ refusal its. fits) (λ it asked. tt) fits (λ name value is. assigned value (subst AssignsInteger is spoken)) moved (λ cell. fits)
     where
       assigned : (value : ℤ) → is_value (Int value) ≡ true → (views : List View) (at : ℕ) (view : View) → s.views ≡ Some views → slice_get views at ≡ Some view → Fits d shared who (with_view s (record view { private = Int value }))
       assigned value value_fits views at view attached found =

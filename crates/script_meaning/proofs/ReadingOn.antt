@@ -26,7 +26,8 @@ use Rattle.script_meaning.specs.Reading.{Attaches, read_after, Moves, read_by, r
 use Rattle.script_meaning.specs.TakingTurns.{with_turn}
 use Rattle.script_meaning.specs.Transcript.{opening, world_at}
 use Rattle.script_meaning.specs.Turns.{Turn, turn}
-use Rattle.script_meaning.proofs.Elements.{slice_get-set_same, slice_get-set_other, slice_get-set_cases, slice_get-append, slice_get-push_cases}
+use Rattle.script_world.proofs.Elements.{slice_get-set_other, slice_get-set_cases, slice_get-append, slice_get-push_cases}
+use Rattle.script_meaning.proofs.Elements.{slice_get-set_same}
 use Rattle.script_meaning.proofs.Reached.{WorldStands, taken_up-stands, opening_sessions, world_fits, always_stands, always_fits}
 use Rattle.script_meaning.proofs.Reading.{attach_gives_latest, stays_detached, moves_on_disk}
 use Rattle.script_meaning.proofs.TakingTurns.{commanded-turn}
@@ -55,9 +56,6 @@ read_by-other definitions who object (Some (place, Some own)) differs read =
 
 -- what a session of this world reads now, after an event
 module _ (coming : List Outcome) (w : HistoryWorld) (event : Event) (who object : ℕ) where
-  abbrev machine_opens : List (List ℕ) → HistoryDisk
-  machine_opens = (by_history coming).opens
-
   -- the session had a view of the object before, and reads by the event what it reads now
   record CameFrom (read : Cell) : Type 0 where
     session : Session

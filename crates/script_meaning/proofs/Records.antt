@@ -27,7 +27,8 @@ use Rattle.script_meaning.specs.Values.{in_range}
 use Rattle.script_meaning.specs.Fit.{ViewsFit}
 use Rattle.script_meaning.specs.Language.{store_writing, history_machine}
 use Rattle.script_meaning.proofs.Recording.{commits_of-push, names_of-push, can_replay-push, AreRecords-push, IsRecord-granted, is_commit_among-granted, staged-in_range}
-use Rattle.script_meaning.proofs.Keeping.{Sound, Fits, Spoken, AskedOf, asked_so, Defined}
+use Rattle.script_meaning.proofs.Begins.{AskedOf}
+use Rattle.script_meaning.proofs.Keeping.{Sound, Fits, Spoken, asked_so, Defined}
 
 pub record Match (records : List Decoded) (definitions : List (List ℕ)) (history : List (List Change)) : Type 0 where
   pub names : names_of records ≡ Some definitions

@@ -34,7 +34,8 @@ use Rattle.script_meaning.specs.TakingTurns.{with_turn}
 use Rattle.script_meaning.specs.Turns.{Turn, turn}
 use Rattle.script_meaning.proofs.AssignedIntegers.{HasInteger, line_form-integer}
 use Rattle.script_meaning.proofs.Defining.{definable-push}
-use Rattle.script_meaning.proofs.DiskTurns.{Writes, IsOfViews, asked-of_views, turn-cases}
+use Rattle.script_meaning.proofs.Begins.{AskedOf, asked_by}
+use Rattle.script_meaning.proofs.DiskTurns.{Writes, turn-cases}
 use Rattle.script_meaning.proofs.TakingTurns.{commanded-turn}
 use Rattle.script_play.specs.declared.world.StoreWorld.{StoreWorld}
 use Rattle.script_play.specs.declared.response.Response.{Response}
@@ -46,15 +47,15 @@ use Rattle.script_play.proofs.Turning.{moves-nothing, moves-then}
 
 -- ---- the first command of a session that isn't attached makes no attempt
 
-never-writes : (who : ℕ) (asked : Entry) (reply : Reply) → IsOfViews (new_session who) asked → writes asked reply ≡ true → ⊥
+never-writes : (who : ℕ) (asked : Entry) (reply : Reply) → AskedOf (new_session who) asked → writes asked reply ≡ true → ⊥
 never-writes who (entry.Attach by) reply of writing = true≢false (sym writing)
 never-writes who (entry.Acquire by object number) reply of writing = true≢false (sym writing)
-never-writes who (entry.Commit by []) reply of writing = true≢false (sym writing)
-never-writes who (entry.Commit by (change ∷ changes)) reply of writing = none-some of.0 of.1
+never-writes who (entry.Commit by []) reply of writing = absurd of
+never-writes who (entry.Commit by (change ∷ changes)) reply of writing = none-some of.0 of.2
 
 first-turn : (next : ℕ → Outcome) (definitions names : List (List ℕ)) (disk : ObjectsDisk) (who : ℕ) (command : Command) → attempts_of (Some (turn (machine next) definitions names disk (new_session who) command).shared) ≡ attempts_of (Some disk)
 first-turn next definitions names disk who command =
-    let never : (asked : Entry) → Writes objects_machine definitions disk.state (new_session who) command asked true → ⊥ = λ asked it. never-writes who asked _ (asked-of_views definitions (new_session who) command asked it.asks) it.is in
+    let never : (asked : Entry) → Writes objects_machine definitions disk.state (new_session who) command asked true → ⊥ = λ asked it. never-writes who asked _ (asked_by definitions (new_session who) command asked it.asks).1 it.is in
     turn-cases objects_machine next definitions names disk (new_session who) command (λ (t : Turn ObjectsDisk). attempts_of (Some t.shared) ≡ attempts_of (Some disk)) (λ unwritten. refl) (λ asked it. absurd (never asked it)) (λ asked it. absurd (never asked it))
 
 -- a world that was just opened, in which no session has appeared
@@ -234,8 +235,8 @@ module _ {D : Type 0} (faults clock : D → ℕ) (crash : D → ℕ → List ℕ
       }))
 
   pub session_some : (name : List ℕ) (command : Option Command) (response : Response) (place : ℕ) (w middle new : StoreWorld (StoreState D)) → place ≡ own_place w name → place < 64 → IsOpen w.store → middle ≡ placed w name → Answers faults clock crash (command_means place command) (Some response) middle new → Answers faults clock crash (session_means name command) (Some response) w new
-  session_some name command response place w middle new place_is room open_is middle_is answers =
-      from_placed (subst (λ at. at < 64) place_is room) (subst (λ at. Answers faults clock crash (command_means at command) (Some response) (placed w name) new) place_is (subst (λ those. Answers faults clock crash (command_means place command) (Some response) those new) middle_is answers))
+  session_some name command response place w middle new place_is room open_is middle_is given =
+      from_placed (subst (λ at. at < 64) place_is room) (subst (λ at. Answers faults clock crash (command_means at command) (Some response) (placed w name) new) place_is (subst (λ those. Answers faults clock crash (command_means place command) (Some response) those new) middle_is given))
     where
       from_placed : own_place w name < 64 → Answers faults clock crash (command_means (own_place w name) command) (Some response) (placed w name) new → Answers faults clock crash (session_means name command) (Some response) w new
       from_placed small it = record {

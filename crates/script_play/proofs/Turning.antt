@@ -1,5 +1,5 @@
 -- What the calls of a store do, as parts of the answer to a line.
-use Rattle.std.specs.Prelude.{◌≡◌, ◌≢◌, ◌≤◌, ◌+◌, ◌++◌, ◌⊎◌, ℕ, Bool, true, false, cond, List, [], ◌∷◌, length, map, Option, Some, refl}
+use Rattle.std.specs.Prelude.{◌≡◌, ◌≢◌, ◌≤◌, ◌+◌, ◌++◌, ◌⊎◌, ℕ, suc, Bool, true, false, cond, List, [], ◌∷◌, length, map, Option, Some, refl}
 use Rattle.std.specs.Option.{option_to_list}
 use Rattle.std.proofs.Common.{◌∙◌, ap, ap₂, sym, subst₂, inl, inr, ⊎_elim, arith, append_assoc, append-nil}
 use Rattle.std.proofs.lemmas.Bool.{cases_lt}
@@ -89,7 +89,7 @@ module _ {D : Type 0} (old new : StoreState D) (names : List (List ℕ)) (is : n
 
 length-ended : (attempted : Decoded) (outcomes : List Outcome) → length (attempts_ended attempted outcomes) ≡ length outcomes
 length-ended attempted [] = refl
-length-ended attempted (outcome ∷ outcomes) = ap (λ n. 1 + n) (length-ended attempted outcomes)
+length-ended attempted (outcome ∷ outcomes) = ap suc (length-ended attempted outcomes)
 
 module _ {D : Type 0} (faults clock : D → ℕ) (crash : D → ℕ → List ℕ → Type 0) where
   -- ---- time

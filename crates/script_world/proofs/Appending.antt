@@ -40,18 +40,6 @@ ended_events-push bytes b = ap (map line) (ended_lines-push bytes b) ∙ by_end 
     by_end true = map-append line (ended_lines bytes) (strip_carriage_return (open_line bytes) ∷ [])
     by_end false = refl
 
-module _ {m : Meaning} {S : Type 0} (machine : Machine m S) (w : World m S) where
-  -- the text of the lines that ended, and one more byte
-  pub text-push : (bytes : List ℕ) (b : ℕ) → text_of machine w (ended_events (bytes ++ b ∷ [])) ≡ text_of machine w (ended_events bytes) ++ cond (eqb b 10) (answered machine (world_after machine w (ended_events bytes)) (line (strip_carriage_return (open_line bytes)))).text []
-  text-push bytes b = ap (text_of machine w) (ended_events-push bytes b) ∙ by_end (eqb b 10)
-    where
-      last : Event
-      last = line (strip_carriage_return (open_line bytes))
-
-      by_end : (ends : Bool) → text_of machine w (cond ends (ended_events bytes ++ line (strip_carriage_return (open_line bytes)) ∷ []) (ended_events bytes)) ≡ text_of machine w (ended_events bytes) ++ cond ends (answered machine (world_after machine w (ended_events bytes)) (line (strip_carriage_return (open_line bytes)))).text []
-      by_end true = text_of-append machine w (ended_events bytes) (line (strip_carriage_return (open_line bytes)) ∷ []) ∙ ap (λ text. text_of machine w (ended_events bytes) ++ text) (append-nil _)
-      by_end false = sym (append-nil (text_of machine w (ended_events bytes)))
-
 -- more bytes add events behind those that ended
 pub record MoreEvents (bytes more : List ℕ) : Type 0 where
   pub events : List Event

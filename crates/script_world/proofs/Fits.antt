@@ -1,33 +1,14 @@
 -- What holds of each session by itself, as the shared state stands, holds of all sessions of every world that is reached.
 use Rattle.std.specs.Prelude.{◌≡◌, ◌≢◌, ◌<◌, ◌⊎◌, ◌++◌, ◌+◌, ℕ, zero, suc, min, Bool, true, false, List, [], ◌∷◌, length, nat_lt, Some, None, Ok, if◌then◌else◌, slice_get, slice_set, refl}
 use Rattle.std.specs.Option.{ForSome}
-use Rattle.std.proofs.Common.{◌∙◌, ap, sym, subst, inl, inr, ⊎_elim, arith, length-append}
+use Rattle.std.proofs.Common.{◌∙◌, ap, sym, subst, inl, inr, ⊎_elim, arith, length-append, length-set}
 use Rattle.std.proofs.lemmas.Bool.{ltb-true, ltb-false}
 use Rattle.std.proofs.lemmas.Option.{none-some, same_Some, slice_get-get_or}
 use Rattle.ses_report.specs.Reports.{Answer}
 use Rattle.script_world.specs.Meaning.{said, ask, under, Meaning}
 use Rattle.script_world.specs.Worlds.{World, Machine, Event, first_sessions, own_session, with_name, with_session, closed, world_after}
+use Rattle.script_world.proofs.Elements.{slice_get-set_cases, slice_get-push_cases}
 use Rattle.script_world.proofs.Moves.{MayTurn, Keeps, taken_up-keeps, lifts}
-
-slice_get-set_cases : {X : Type 0} (xs : List X) (i j : ℕ) (y z : X) → slice_get (slice_set xs i y) j ≡ Some z → ((j ≡ i) × (z ≡ y)) ⊎ ((j ≢ i) × (slice_get xs j ≡ Some z))
-slice_get-set_cases [] i j y z is = absurd (none-some z is)
-slice_get-set_cases (x ∷ xs) zero zero y z is = inl (refl, sym (same_Some y z is))
-slice_get-set_cases (x ∷ xs) zero (suc j) y z is = inr (omega arith, is)
-slice_get-set_cases (x ∷ xs) (suc i) zero y z is = inr (omega arith, is)
-slice_get-set_cases (x ∷ xs) (suc i) (suc j) y z is =
-    ⊎_elim (λ same. inl (ap suc same.0, same.1)) (λ other. inr (omega (arith, other.0), other.1)) (slice_get-set_cases xs i j y z is)
-
-slice_get-push_cases : {X : Type 0} (xs : List X) (y : X) (j : ℕ) (z : X) → slice_get (xs ++ y ∷ []) j ≡ Some z → (slice_get xs j ≡ Some z) ⊎ ((j ≡ length xs) × (z ≡ y))
-slice_get-push_cases [] y zero z is = inr (refl, sym (same_Some y z is))
-slice_get-push_cases [] y (suc j) z is = absurd (none-some z is)
-slice_get-push_cases (x ∷ xs) y zero z is = inl is
-slice_get-push_cases (x ∷ xs) y (suc j) z is =
-    ⊎_elim inl (λ last. inr (ap suc last.0, last.1)) (slice_get-push_cases xs y j z is)
-
-length-set : {X : Type 0} (xs : List X) (i : ℕ) (y : X) → length (slice_set xs i y) ≡ length xs
-length-set [] i y = refl
-length-set (x ∷ xs) zero y = refl
-length-set (x ∷ xs) (suc i) y = ap suc (length-set xs i y)
 
 -- ---- sessions that no line has named
 

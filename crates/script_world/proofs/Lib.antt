@@ -1,3 +1,4 @@
+pub mod Elements
 pub mod ScriptLaws
 pub mod Moves
 pub mod Others

@@ -1,24 +1,12 @@
 -- An event leaves each session that it isn't of.
-use Rattle.std.specs.Prelude.{◌≡◌, ◌≢◌, ◌++◌, ℕ, zero, suc, List, [], ◌∷◌, length, nat_lt, Some, slice_get, slice_set, refl}
+use Rattle.std.specs.Prelude.{◌≡◌, ◌≢◌, ◌++◌, ℕ, List, [], ◌∷◌, length, nat_lt, Some, slice_get, slice_set, refl}
 use Rattle.std.specs.Option.{ForSome}
-use Rattle.std.proofs.Common.{◌∙◌, ap}
-use Rattle.std.proofs.lemmas.Option.{none-some}
+use Rattle.std.proofs.Common.{◌∙◌}
 use Rattle.script_world.specs.Meaning.{Meaning}
 use Rattle.script_world.specs.Worlds.{World, Machine, Event, own_session, session_of, answered}
 use Rattle.script_world.specs.Laws.{KeepsOthers}
+use Rattle.script_world.proofs.Elements.{slice_get-set_other, slice_get-append}
 use Rattle.script_world.proofs.Moves.{if-holds, Keeps, answered-keeps}
-
-pub slice_get-set_other : {X : Type 0} (xs : List X) (i j : ℕ) (y : X) → j ≢ i → slice_get (slice_set xs i y) j ≡ slice_get xs j
-slice_get-set_other [] i j y differs = refl
-slice_get-set_other (x ∷ xs) zero zero y differs = absurd (differs refl)
-slice_get-set_other (x ∷ xs) zero (suc j) y differs = refl
-slice_get-set_other (x ∷ xs) (suc i) zero y differs = refl
-slice_get-set_other (x ∷ xs) (suc i) (suc j) y differs = slice_get-set_other xs i j y (λ same. differs (ap suc same))
-
-pub slice_get-append : {X : Type 0} (xs ys : List X) (j : ℕ) (z : X) → slice_get xs j ≡ Some z → slice_get (xs ++ ys) j ≡ Some z
-slice_get-append [] ys j z is = absurd (none-some z is)
-slice_get-append (x ∷ xs) ys zero z is = is
-slice_get-append (x ∷ xs) ys (suc j) z is = slice_get-append xs ys j z is
 
 module _ {m : Meaning} {S : Type 0} (machine : Machine m S) (who : ℕ) (session : m.Session) where
   abbrev Holds : World m S → Type 0

@@ -73,10 +73,6 @@ among-append [] more at within = absurd (omega arith)
 among-append (outcome ∷ coming) more zero within = refl
 among-append (outcome ∷ coming) more (suc at) within = among-append coming more at (omega arith)
 
-pub among-last : (coming : List Outcome) (outcome : Outcome) → among (coming ++ outcome ∷ []) (length coming) ≡ outcome
-among-last [] outcome = refl
-among-last (first ∷ coming) outcome = among-last coming outcome
-
 -- the state that an entry asks has used what the world has used
 module _ {m : Meaning} {R S : Type 0} (opens : m.Definitions → OnDisk R S) where
   pub asks-used : (w : World m (OnDisk R S)) (event : Event) → ((definitions : m.Definitions) → length (opens definitions).tried ≡ 0) → AsksWith (λ disk. length disk.tried ≡ used w.shared) (planned opens w event)
@@ -108,17 +104,6 @@ module _ {m : Meaning} {R S : Type 0} (writing : Writing m R) (machine : Machine
         refused = any_refused-append all w events (event ∷ []) ∙ ap₂ (λ (refused more : Bool). refused || more) told.refused (or-false _ ∙ ap (λ it. is_refused (answered all it event).answer) told.world);
         world = world_after-append all w events (event ∷ []) ∙ ap (λ it. (answered all it event).world) told.world;
       }
-
-  -- the program's own machine, which has the one outcome that it saw, answers the same
-  pub seen_answer : (w : World m (OnDisk R S)) (coming : List Outcome) (outcome : Outcome) (event : Event) → used w.shared ≡ length coming → answered (on_disk writing (λ _. outcome) machine) w event ≡ answered (with_list (coming ++ outcome ∷ [])) w event
-  seen_answer w coming outcome event learnt =
-      by_plan (planned (with_list coming).opens w event) (asks-used (with_list coming).opens w event (λ definitions. refl))
-    where
-      by_plan : (p : Planned m (OnDisk R S)) → AsksWith (λ disk. length disk.tried ≡ used w.shared) p → settled (on_disk writing (λ _. outcome) machine) p ≡ settled (with_list (coming ++ outcome ∷ [])) p
-      by_plan (answers a) holds = refl
-      by_plan (asks world disk who waiting entry) holds =
-          let r = machine.step disk.state entry in
-          ap (λ it. turned world who waiting (written writing it disk r (writing.of_step entry r.0))) (sym (ap (among (coming ++ outcome ∷ [])) (holds ∙ learnt) ∙ among-last coming outcome))
 
   -- ---- outcomes that are all done
   pub all_done : (w : World m (OnDisk R S)) (next : ℕ → Outcome) (events : List Event) → ((at : ℕ) → next at ≡ done) → SameOf (on_disk writing next machine) (on_disk writing (λ _. done) machine) w events
