@@ -31,7 +31,7 @@ use Rattle.script_meaning.specs.SameRecords.{SameRecords}
 use Rattle.script_meaning.specs.StoreRuns.{store_disk}
 use Rattle.script_meaning.specs.Turns.{Turn, turn_from, replied}
 use Rattle.script_meaning.proofs.Acting.{act_steps, act_fares}
-use Rattle.script_play.specs.Turning.{machine, FewFaults, Later, Moves, Asked, Replied, Turned, TurnTakes}
+use Rattle.script_play.specs.Turning.{machine, FewFaults, Later, Moves, Asked, Replied, ReplyWants, Turned, TurnTakes, TurnWants}
 
 -- ---- faults
 
@@ -192,3 +192,8 @@ module _ {D : Type 0} (faults clock : D → ℕ) (crash : D → ℕ → List ℕ
     made_so = λ next opened tried tells.
         ap (λ (t : Turn ObjectsDisk). attempts_of (Some t.shared)) (asked-turn definitions names command asked reply before between old new begins asks next opened tried tells) ∙ sym (append_assoc (map as_done (option_to_list opened)) tried asks.more);
   }
+
+  -- for want of memory there is no answer by the reply
+  pub asked_wants : (definitions names : List (List ℕ)) (command : Command) (asked : Entry) (before between : Session) (old new : StoreState D) → (Ask asked, between) ≡ begun definitions before command → ReplyWants faults clock crash asked old new → TurnWants faults clock crash definitions names command before old new
+  asked_wants definitions names command asked before between old new begins wants =
+      ⊎_elim inl (λ replied. inr (asked_takes definitions names command asked replied.0 before between old new begins replied.1)) wants
