@@ -161,7 +161,7 @@ module _ {D : Type 0} (faults clock : D → ℕ) (crash : D → ℕ → List ℕ
         attempted = run.attempts_are;
       }
 
-  whole-as : (ending : Ending) (s : Streams) (store : StoreState D) (refused : Bool) → ({outcomes : List Outcome} {made : List (Attempt Decoded)} {taken : List ℕ} → IsWhole s records outcomes made taken refused → EndsSo s records outcomes made taken ending) → EndedWhole faults clock crash records at refused s store → EndedAs ending s store
+  whole-as : (ending : Ending) (s : Streams) (store : StoreState D) (refused : Bool) → ((outcomes : List Outcome) (made : List (Attempt Decoded)) (taken : List ℕ) → IsWhole s records outcomes made taken refused → EndsSo s records outcomes made taken ending) → EndedWhole faults clock crash records at refused s store → EndedAs ending s store
   whole-as ending s store refused so it =
       let d = it.finished.done_so in
       record {
@@ -169,13 +169,13 @@ module _ {D : Type 0} (faults clock : D → ℕ) (crash : D → ℕ → List ℕ
         made = all_attempts d.opened d.tried;
         taken = it.taken;
         gives = it.gives;
-        ends_so = so (ended-whole s it.taken refused store it.finished it.at_end it.size);
+        ends_so = so d.coming (all_attempts d.opened d.tried) it.taken (ended-whole s it.taken refused store it.finished it.at_end it.size);
         stands = subst (Stands faults clock crash records at d.coming (all_attempts d.opened d.tried)) (sym it.finished.store_is) d.stands;
       }
 
   pub ended_as : (ending : Ending) (s : Streams) (store : StoreState D) → EndsRun faults clock crash records at ending s store → EndedAs ending s store
-  ended_as Accepted s store it = whole-as Accepted s store false (λ wrote. wrote) it
-  ended_as Refusing s store it = whole-as Refusing s store true (λ wrote. wrote) it
+  ended_as Accepted s store it = whole-as Accepted s store false (λ outcomes made taken wrote. wrote) it
+  ended_as Refusing s store it = whole-as Refusing s store true (λ outcomes made taken wrote. wrote) it
   ended_as SourceFault s store it = ended-broken s store it
   ended_as TooLong s store it = ended-over s store it
   ended_as SinkFault s store it = ⊎_elim
