@@ -60,4 +60,3 @@ find-fails test other (y ∷ xs) x is none = by_first (test y) (other y) refl is
     by_first first true e found nothing later = absurd (none-some y (sym nothing))
     by_first true false e found nothing later = ap other (sym (same_Some y x found)) ∙ e
     by_first false false e found nothing later = later found nothing
-

@@ -129,7 +129,7 @@ module _ {D : Type 0} (faults clock : D → ℕ) (crash : D → ℕ → List ℕ
     command-answers : (answer : Answer) (after : Session) (store : StoreState D) → Turned faults clock crash old.definitions old.names it answer (slice_index_or old.sessions who (new_session who)) after old.store store →
         Answers faults clock crash (command_means who (Some it)) (Some (record { prefix = name_at old.names who; answer = answer })) old (record old { store = store; sessions = slice_set old.sessions who after })
     command-answers answer after store t = record {
-        told = t.told;
+      told = t.told;
       more = t.more;
       as_many = t.as_many;
       moves = t.moves;
@@ -222,7 +222,7 @@ module _ {D : Type 0} (faults clock : D → ℕ) (crash : D → ℕ → List ℕ
   session_full name command response place w middle place_is full open_is middle_is response_is =
       subst (λ (those : StoreWorld (StoreState D)). Answers faults clock crash (session_means name command) (Some response) w those) (sym middle_is)
       (subst (λ it. Answers faults clock crash (session_means name command) (Some it) w (placed w name)) (sym response_is) (record {
-            told = [];
+        told = [];
         more = [];
         as_many = refl;
         moves = moves-nothing faults clock crash w.store;

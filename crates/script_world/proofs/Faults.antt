@@ -93,7 +93,6 @@ module _ (is_fault : Refusal → Bool) (fault : Answer) where
           same : (after : World m (OnDisk R S)) → (after.shared ≡ w.shared) ⊎ (after.shared ≡ Some (shared_of opens w)) → faults_of after.shared ≡ faults_of w.shared
           same after it = ⊎_elim (λ same. ap faults_of same) (λ closed. ap faults_of closed ∙ opened-sees) it
 
-
       -- what tells of a fault is written so
       abbrev Says : Answered m (OnDisk R S) → Type 0
       Says a = tells is_fault a.answer ≡ true → (prefix : List ℕ) × (a.text ≡ answer_text prefix fault)

@@ -60,11 +60,7 @@ fn append_detail(alloc: Global, out: &mut Vec<u8>, detail: &Detail) -> Result<()
     }
 }
 
-fn append_refusal(
-    alloc: Global,
-    out: &mut Vec<u8>,
-    refusal: &Refusal,
-) -> Result<(), AllocError>
+fn append_refusal(alloc: Global, out: &mut Vec<u8>, refusal: &Refusal) -> Result<(), AllocError>
     ensures { OnOk result (out.new.items ≡ out.old.items ++ spec.refusal_text refusal.now) }
 {
     append(out, b"ERROR")?;
@@ -92,11 +88,7 @@ fn output_bytes(alloc: Global, prefix: &Text, text: &[u8]) -> Result<Vec<u8>, Al
     Ok(line)
 }
 
-fn error_bytes(
-    alloc: Global,
-    mut line: Vec<u8>,
-    refusal: &Refusal,
-) -> Result<Vec<u8>, AllocError>
+fn error_bytes(alloc: Global, mut line: Vec<u8>, refusal: &Refusal) -> Result<Vec<u8>, AllocError>
     ensures { IfOk result (λ bytes. bytes.items ≡ line.items ++ (spec.refusal_text refusal.now ++ 10 ∷ [])) }
 {
     append_refusal(alloc, &mut line, refusal)?;
@@ -138,11 +130,7 @@ pub fn append_error(
 /// The line `prefix: ERROR n detail` of a refusal, with its LF; with an empty prefix the colon and
 /// its blank are left out too. The line of a block stands before the detail (docs/LANGUAGE.md,
 /// "Refusals"). The only error is want of memory.
-pub fn error_line(
-    alloc: Global,
-    prefix: &Text,
-    refusal: &Refusal,
-) -> Result<List<u8>, AllocError>
+pub fn error_line(alloc: Global, prefix: &Text, refusal: &Refusal) -> Result<List<u8>, AllocError>
     ensures { IfOk result (λ line. line ≡ spec.error_line prefix.now refusal.now) }
 {
     let front = if prefix.bytes().is_empty() {

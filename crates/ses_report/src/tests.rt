@@ -51,7 +51,7 @@ fn appends_lines(rt: HostRuntime) -> Result<(), Fail> {
     let mut out = Vec::new(rt.alloc());
     append_output(rt.alloc(), &mut out, &a, b"7")?;
     append_error(rt.alloc(), &mut out, &a, &Refusal::disk_fault())?;
-    assert_eq!(rt; out.as_slice(), b"a: 7\na: ERROR 30\n");
+    assert_eq!(rt; out.as_slice(), b"a: 7\na: ERROR 30\n".as_slice());
     needs_send(Refusal::not_acquired(a));
     needs_send(Detail::One(a));
     Ok(())

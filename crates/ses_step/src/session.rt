@@ -530,7 +530,14 @@ mod tests {
         ];
         for (reply, number, detail) in cases {
             let (answer, _) = turn(alloc, &mut session, &Command::Acquire(v), &reply)?;
-            assert_eq!(rt; answer, Answer::Refused(Refusal { number, line: 0, detail }));
+            assert_eq!(rt;
+                answer,
+                Answer::Refused(Refusal {
+                    number,
+                    line: 0,
+                    detail
+                })
+            );
         }
         let asked = Entry::Attach { who: 0 };
         let refused = session.finish(alloc, &[], &[], &asked, &Reply::NoMemory);
