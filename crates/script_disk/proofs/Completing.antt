@@ -12,12 +12,14 @@ use Rattle.script_disk.specs.Formatted.{AreFormatted}
 pub not_unformatted : (images : List ℕ → Type 0) (image : List ℕ) → AreFormatted images → images image → IsUnformatted image → ⊥
 not_unformatted images image formatted is other =
     let way = reads_records_one_way image in
-    ⊎_elim (λ held. way.unformatted_or_holds formatted.records other held) (λ longer. way.unformatted_or_holds (formatted.records ++ longer.0 ∷ []) other longer.1) (formatted.each image is)
+    let it = formatted.each image is in
+    way.unformatted_or_holds it.held other it.holds
 
 pub not_damaged : (images : List ℕ → Type 0) (image : List ℕ) (offset : ℕ) → AreFormatted images → images image → IsDamaged image offset → ⊥
 not_damaged images image offset formatted is damaged =
     let way = reads_records_one_way image in
-    ⊎_elim (λ held. way.holds_or_damaged formatted.records offset held damaged) (λ longer. way.holds_or_damaged (formatted.records ++ longer.0 ∷ []) offset longer.1 damaged) (formatted.each image is)
+    let it = formatted.each image is in
+    way.holds_or_damaged it.held offset it.holds damaged
 
 module _ (images : List ℕ → Type 0) (formatted : AreFormatted images) where
   -- a dump without a fault of the disk or the sink

@@ -10,7 +10,7 @@ use Rattle.aw_codec.specs.Records.{are_distinct}
 use Rattle.aw_io.specs.Known.{Grows, GrowsByFront, Grows-nothing, Grows-append, GrowsByFront-append, GrowsByFront-more}
 use Rattle.aw_store.specs.Replay.{can_replay, names_of, is_commit_among}
 use Rattle.mv_core.specs.declared.object.Object.{Object}
-use Rattle.script_world.specs.Dump.{dumped_object, dumped}
+use Rattle.script_meaning.specs.Dump.{dumped_object, dumped}
 
 -- a text has at most 64 bytes
 pub text_fits : (bytes : List ℕ) → is_text bytes ≡ true → length bytes ≤ 64

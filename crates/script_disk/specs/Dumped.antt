@@ -5,8 +5,8 @@ use Rattle.aw_io.specs.Known.{Grows, GrowsByFront}
 use Rattle.aw_journal.specs.Format.{IsUnformatted}
 use Rattle.aw_journal.specs.Passed.{Passed}
 use Rattle.aw_store.specs.Images.{HoldsRecords, IsDamaged}
-use Rattle.script_world.specs.Dump.{dump_text}
-use Rattle.script_world.specs.Matching.{CanBeOpened}
+use Rattle.script_meaning.specs.Dump.{dump_text}
+use Rattle.script_meaning.specs.Matching.{CanBeOpened}
 use Rattle.script_disk.specs.Opened.{CutOff}
 use Rattle.script_disk.specs.Texts.{not_a_workspace, damaged}
 

@@ -2,8 +2,20 @@
 use Rattle.std.specs.Prelude.{◌⊎◌, ◌++◌, ℕ, List, [], ◌∷◌}
 use Rattle.aw_codec.specs.declared.record.Decoded.{Decoded}
 use Rattle.aw_store.specs.Images.{HoldsRecords}
+use Rattle.script_meaning.specs.SameRecords.{SameRecords}
 
--- one list of records, and perhaps one record more, is what each of these images holds
-pub record AreFormatted (images : List ℕ → Type 0) : Type 0 where
-  pub records : List Decoded
-  pub each : (image : List ℕ) → images image → HoldsRecords image records ⊎ ((more : Decoded) × HoldsRecords image (records ++ more ∷ []))
+-- lists of records are compared by an argument
+module _ (Same : List Decoded → List Decoded → Type 0) where
+  -- the image holds these records, and perhaps one record more
+  pub record HoldsSo (records : List Decoded) (image : List ℕ) : Type 0 where
+    pub held : List Decoded
+    pub holds : HoldsRecords image held
+    pub are : Same held records ⊎ ((more : Decoded) × Same held (records ++ more ∷ []))
+
+  -- one list of records is what each of these images holds so
+  pub record AreFormattedBy (images : List ℕ → Type 0) : Type 0 where
+    pub records : List Decoded
+    pub each : (image : List ℕ) → images image → HoldsSo records image
+
+abbrev pub AreFormatted : (List ℕ → Type 0) → Type 0
+AreFormatted images = AreFormattedBy SameRecords images

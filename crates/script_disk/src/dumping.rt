@@ -3,7 +3,7 @@ ghost use Rattle.aw_io.specs.Known.{Grows, GrowsByFront};
 ghost use Rattle.aw_lists.specs.Faults.{Rose};
 ghost use Rattle.aw_journal.specs.Passed.{Passed};
 ghost use Rattle.aw_store.specs.Replay.{names_of};
-ghost use Rattle.script_world.specs.Dump.{dumped};
+ghost use Rattle.script_meaning.specs.Dump.{dumped};
 ghost use Rattle.script_disk.specs.Dumped.{EndsDump, Dumps, CompletesDump};
 ghost use Rattle.script_disk.specs.Formatted.{AreFormatted};
 

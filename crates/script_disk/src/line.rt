@@ -1,7 +1,7 @@
 ghost use Rattle.std.specs.Prelude.{◌≡◌, ◌≤◌, ◌+◌, ◌++◌, ◌∷◌, [], codes, length};
 ghost use Rattle.arrayvec.specs.ArrayVec.{array_vec_len};
 ghost use Rattle.aw_cell.specs.CellText.{cell_text};
-ghost use Rattle.script_world.specs.Dump.{heading, dumped_object};
+ghost use Rattle.script_meaning.specs.Dump.{heading, dumped_object};
 ghost use Rattle.script_disk.specs.Texts.{damaged};
 
 use arrayvec::ArrayVec;

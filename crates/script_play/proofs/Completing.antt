@@ -11,11 +11,11 @@ use Rattle.script_disk.specs.declared.opening.Unopened.TheVariants as unopened
 use Rattle.script_disk.proofs.Completing.{not_unformatted, not_damaged}
 use Rattle.aw_codec.specs.declared.record.Decoded.{Decoded}
 use Rattle.aw_io.specs.Known.{Grows}
-use Rattle.script_world.specs.AllDone.{AreDone}
+use Rattle.script_meaning.specs.AllDone.{AreDone}
 use Rattle.script_world.specs.Outcomes.{Outcome, Attempt}
-use Rattle.script_world.specs.FaultLines.{has_faulted}
-use Rattle.script_world.specs.Transcript.{transcript}
-use Rattle.script_world.proofs.AllDone.{none_faulted, transcript_as_with_none}
+use Rattle.script_world.specs.Faults.{has_faulted}
+use Rattle.script_meaning.specs.Transcript.{transcript}
+use Rattle.script_meaning.proofs.AllDone.{none_faulted, transcript_as_with_none}
 use Rattle.script_play.specs.declared.ending.Ending.{Ending}
 use Rattle.script_play.specs.declared.ending.Ending.TheVariants.{Accepted, Refusing, SourceFault, SinkFault, DiskFault, NoMemory, TooLong}
 use Rattle.script_play.specs.Statuses.{status_of}
@@ -37,9 +37,9 @@ ends_well SinkFault status is source sink disk = absurd (sink is)
 ends_well DiskFault status is source sink disk = absurd (disk is)
 
 -- what was written is the transcript with no faults
-whole_text : (ending : Ending) (status : ℕ) (s : Streams) (records : List Decoded) (outcomes : List Outcome) (made : List Attempt) (taken : List ℕ) → AreDone outcomes → status ≡ status_of ending → EndsSo s records outcomes made taken ending → (status ≡ 0) ⊎ (status ≡ 1) → Grows s.written_before s.written_now (transcript records [] taken)
-whole_text Accepted status s records outcomes made taken all is ends well = subst (Grows s.written_before s.written_now) (transcript_as_with_none records outcomes taken all) ends.wrote
-whole_text Refusing status s records outcomes made taken all is ends well = subst (Grows s.written_before s.written_now) (transcript_as_with_none records outcomes taken all) ends.wrote
+whole_text : (ending : Ending) (status : ℕ) (s : Streams) (records : List Decoded) (outcomes : List Outcome) (made : List (Attempt Decoded)) (taken : List ℕ) → AreDone outcomes → status ≡ status_of ending → EndsSo s records outcomes made taken ending → (status ≡ 0) ⊎ (status ≡ 1) → Grows s.written_before s.written_now (transcript [] records [] taken)
+whole_text Accepted status s records outcomes made taken all is ends well = subst (Grows s.written_before s.written_now) (transcript_as_with_none [] records outcomes taken all) ends.wrote
+whole_text Refusing status s records outcomes made taken all is ends well = subst (Grows s.written_before s.written_now) (transcript_as_with_none [] records outcomes taken all) ends.wrote
 whole_text SourceFault status s records outcomes made taken all is ends well = absurd (⊎_elim (λ zero. omega (arith, is, zero)) (λ one. omega (arith, is, one)) well)
 whole_text SinkFault status s records outcomes made taken all is ends well = absurd (⊎_elim (λ zero. omega (arith, is, zero)) (λ one. omega (arith, is, one)) well)
 whole_text DiskFault status s records outcomes made taken all is ends well = absurd (⊎_elim (λ zero. omega (arith, is, zero)) (λ one. omega (arith, is, one)) well)

@@ -9,26 +9,23 @@ use Rattle.aw_io.specs.Known.{Gives, Grows, GrowsByFront, Gives-nothing, Grows-n
 use Rattle.aw_codec.specs.Records.{AreDefinable}
 use Rattle.aw_codec.specs.declared.record.Decoded.{Decoded}
 use Rattle.mv_core.specs.Integers.{integers}
-use Rattle.mv_core.specs.Workspace.{Workspace, standing}
-use Rattle.mv_core.specs.declared.entry.Change.{Change}
-use Rattle.mv_core.specs.declared.object.Object.{Object}
-use Rattle.aw_cell.specs.declared.cell.Cell.{Cell}
-use Rattle.script_world.specs.StoreTurns.{store_disk}
+use Rattle.mv_core.specs.Workspace.{standing}
 use Rattle.aw_journal.specs.Passed.{Passed}
 use Rattle.aw_store.specs.Images.{HoldsRecords, LeftRecords}
 use Rattle.aw_store.specs.Replay.{names_of, workspace_of}
 use Rattle.aw_store.specs.Stores.{StoreState}
-use Rattle.script_world.specs.Worlds.{World, with_shared}
-use Rattle.script_world.specs.Outcomes.{Outcome, faulted, Attempt, OnDisk, by_history}
-use Rattle.script_world.specs.Alike.{standing_disk}
-use Rattle.script_world.specs.Script.{ended_lines, script_lines}
-use Rattle.script_world.specs.Faring.{Fares, HoldsLeft}
-use Rattle.script_world.specs.Matching.{CanBeOpened}
-use Rattle.script_world.specs.Transcript.{opening, text_of, world_at, attempts}
-use Rattle.script_world.specs.Running.{IsRun}
-use Rattle.script_world.proofs.Faring.{fares_opened, fares_final}
-use Rattle.script_world.proofs.Standing.{are_alike}
-use Rattle.script_world.proofs.Running.{is_run, run_opened}
+use Rattle.script_world.specs.Outcomes.{Outcome, faulted, Attempt, all_attempts}
+use Rattle.script_world.specs.Worlds.{Event, with_shared, text_of, ended_events, script_events}
+use Rattle.script_meaning.specs.Alike.{standing_disk}
+use Rattle.script_meaning.specs.Faring.{Fares, HoldsLeft}
+use Rattle.script_meaning.specs.Matching.{CanBeOpened}
+use Rattle.script_meaning.specs.Transcript.{opening, world_at, attempts}
+use Rattle.script_meaning.specs.Language.{HistoryDisk, ObjectsWorld, by_history}
+use Rattle.script_meaning.specs.SameRecords.{SameRecords}
+use Rattle.script_meaning.specs.StoreRuns.{store_disk, IsRun}
+use Rattle.script_meaning.proofs.Faring.{fares_opened, fares_final}
+use Rattle.script_meaning.proofs.Standing.{are_alike}
+use Rattle.script_meaning.proofs.StoreRuns.{is_run, run_opened}
 use Rattle.script_play.specs.declared.ending.Ending.{Ending}
 use Rattle.script_play.specs.declared.ending.Ending.TheVariants.{Accepted, Refusing, SourceFault, SinkFault, DiskFault, NoMemory, TooLong}
 use Rattle.script_play.specs.declared.world.StoreWorld.{StoreWorld}
@@ -36,8 +33,8 @@ use Rattle.script_play.specs.Statuses.{most_bytes, status_of}
 use Rattle.script_play.specs.StoreWorlds.{world_of, IsSound}
 use Rattle.script_play.specs.Turning.{FewFaults, defining}
 use Rattle.script_play.specs.Playing.{Play, Stands, HasDone, WasCut, HasFailed, HasPlayed, HasFinished}
-use Rattle.script_play.specs.Reading.{Streams, streams, BrokeOff, RanOver, EndsRun, EndsFrom}
-use Rattle.script_play.specs.Ends.{IsFront, AreLines, IsWhole, IsCut, IsUndefined, EndsSo, contents, WasOpened, Plays}
+use Rattle.script_play.specs.Reading.{Streams, streams, BrokeOff, RanOver, EndedWhole, EndsRun, EndsFrom}
+use Rattle.script_play.specs.Ends.{IsFront, AreEvents, IsWhole, IsCut, IsUndefined, EndsSo, contents, WasOpened, Plays}
 use Rattle.script_play.specs.Opened.{opened_world, opened_play}
 use Rattle.script_play.proofs.Turning.{later-same}
 use Rattle.script_play.proofs.Done.{cut_before, rose-earlier}
@@ -54,7 +51,7 @@ few-earlier : (outcomes : List Outcome) (before middle now : ℕ) → before ≤
 few-earlier outcomes before middle now later few = ⊎_elim (λ less. let it : FewFaults outcomes before now = inl (omega (arith, less, later)) in it) (λ last. inr last) few
 
 -- nothing is open over the objects where nothing is over the commits
-unopened-as : (found : Option (OnDisk (Workspace Change))) → option_map standing_disk found ≡ None → found ≡ None
+unopened-as : (found : Option HistoryDisk) → option_map standing_disk found ≡ None → found ≡ None
 unopened-as None none = refl
 unopened-as (Some disk) none = absurd (none-some (standing_disk disk) (sym none))
 
@@ -62,61 +59,66 @@ module _ {D : Type 0} (faults clock : D → ℕ) (crash : D → ℕ → List ℕ
   -- how a run ended, over the commits and the owners
   pub record EndedAs (ending : Ending) (s : Streams) (store : StoreState D) : Type 0 where
     pub outcomes : List Outcome
-    pub made : List Attempt
+    pub made : List (Attempt Decoded)
     pub taken : List ℕ
     pub gives : Gives s.left_before s.left_now taken
     pub ends_so : EndsSo s records outcomes made taken ending
     pub stands : Stands faults clock crash records at outcomes made store
 
-  history-of : (lines : List (List ℕ)) (text : List ℕ) (refused : Bool) (w : StoreWorld (StoreState D)) (d : HasDone faults clock crash records at lines text refused w) → IsRun records lines d.coming d.made text refused (world_of w)
-  history-of lines text refused w d = is_run records lines d.coming d.made text refused (world_of w) d.run
+  history-of : (events : List Event) (text : List ℕ) (refused : Bool) (w : StoreWorld (StoreState D)) (d : HasDone faults clock crash records at events text refused w) → IsRun [] records events d.coming (all_attempts d.opened d.tried) text refused
+  history-of events text refused w d =
+      is_run [] records events d.coming d.opened d.tried text refused (world_of w) (λ none. d.is_made (unopened (names_of w.store.records) none)) d.run
+    where
+      unopened : (found : Option (List (List ℕ))) → option_map (λ (names : List (List ℕ)). w.store) found ≡ None → found ≡ None
+      unopened None none = refl
+      unopened (Some names) none = absurd (none-some w.store (sym none))
 
   ended-broken : (s : Streams) (store : StoreState D) → BrokeOff faults clock crash records at s store → EndedAs SourceFault s store
   ended-broken s store it =
-      let run = history-of (ended_lines it.taken) it.text it.refused it.w it.lines in
+      let run = history-of (ended_events it.taken) it.text it.refused it.w it.lines in
       record {
         outcomes = it.lines.coming;
-        made = it.lines.made;
+        made = all_attempts it.lines.opened it.lines.tried;
         taken = it.taken;
         gives = it.gives;
         ends_so = record { size = it.size; wrote = subst (Grows s.written_before s.written_now) (sym run.text_is) it.written; attempted = run.attempts_are };
-        stands = subst (Stands faults clock crash records at it.lines.coming it.lines.made) (sym it.store_is) it.lines.stands;
+        stands = subst (Stands faults clock crash records at it.lines.coming (all_attempts it.lines.opened it.lines.tried)) (sym it.store_is) it.lines.stands;
       }
 
   ended-over : (s : Streams) (store : StoreState D) → RanOver faults clock crash records at s store → EndedAs TooLong s store
   ended-over s store it =
-      let run = history-of (ended_lines it.taken) it.text it.refused it.w it.lines in
+      let run = history-of (ended_events it.taken) it.text it.refused it.w it.lines in
       let front : it.taken ≡ take most_bytes (it.taken ++ it.next ∷ []) = sym (take_at it.taken (it.next ∷ []) most_bytes it.size) in
       record {
         outcomes = it.lines.coming;
-        made = it.lines.made;
+        made = all_attempts it.lines.opened it.lines.tried;
         taken = it.taken ++ it.next ∷ [];
         gives = it.gives;
         ends_so = record {
           size = omega (arith, it.size, length-append it.taken (it.next ∷ []));
-          wrote = subst (λ bytes. Grows s.written_before s.written_now (text_of (by_history it.lines.coming) (opening records it.lines.coming) (ended_lines bytes))) front (subst (Grows s.written_before s.written_now) (sym run.text_is) it.written);
-          attempted = subst (λ bytes. attempts records it.lines.coming (ended_lines bytes) ≡ it.lines.made) front run.attempts_are;
+          wrote = subst (λ bytes. Grows s.written_before s.written_now (text_of (by_history it.lines.coming) (opening [] records) (ended_events bytes))) front (subst (Grows s.written_before s.written_now) (sym run.text_is) it.written);
+          attempted = subst (λ bytes. attempts [] records it.lines.coming (ended_events bytes) ≡ all_attempts it.lines.opened it.lines.tried) front run.attempts_are;
         };
-        stands = subst (Stands faults clock crash records at it.lines.coming it.lines.made) (sym it.store_is) it.lines.stands;
+        stands = subst (Stands faults clock crash records at it.lines.coming (all_attempts it.lines.opened it.lines.tried)) (sym it.store_is) it.lines.stands;
       }
 
   -- a cut, with the outcomes and the attempts of its lines
   record Cut (s : Streams) (taken : List ℕ) (store : StoreState D) : Type 0 where
     outcomes : List Outcome
-    made : List Attempt
+    made : List (Attempt Decoded)
     cut : IsCut s records outcomes made taken
     stands : Stands faults clock crash records at outcomes made store
 
-  cut-as : (s : Streams) (taken : List ℕ) (all : List (List ℕ)) (store : StoreState D) → length taken ≤ most_bytes → ((lines : List (List ℕ)) → IsFront lines all → AreLines s taken lines) → WasCut faults clock crash records at all store s.written_before s.written_now → Cut s taken store
+  cut-as : (s : Streams) (taken : List ℕ) (all : List Event) (store : StoreState D) → length taken ≤ most_bytes → ((events : List Event) → IsFront events all → AreEvents s taken events) → WasCut faults clock crash records at all store s.written_before s.written_now → Cut s taken store
   cut-as s taken all store size are it =
-      let alike = are_alike records it.taken.coming it.lines in
+      let alike = are_alike [] records it.taken.coming it.events in
       record {
         outcomes = it.taken.coming;
         made = it.taken.made;
         cut = record {
           size = size;
-          lines = it.lines;
-          are = are it.lines (record { rest = it.rest; is = it.front });
+          events = it.events;
+          are = are it.events (record { rest = it.rest; is = it.front });
           wrote = subst (GrowsByFront s.written_before s.written_now) (sym (sym alike.text ∙ it.taken.due)) it.written;
           attempted = sym alike.attempts_made ∙ it.taken.attempted;
         };
@@ -125,54 +127,66 @@ module _ {D : Type 0} (faults clock : D → ℕ) (crash : D → ℕ → List ℕ
 
   -- a failure to write the definitions
   record Failure (s : Streams) (taken : List ℕ) (store : StoreState D) : Type 0 where
-    made : List Attempt
+    made : List (Attempt Decoded)
     undefined : IsUndefined s records [] made taken
     stands : Stands faults clock crash records at [] made store
 
-  failure-as : (s : Streams) (taken : List ℕ) (all : List (List ℕ)) (store : StoreState D) → length taken ≤ most_bytes → ((lines : List (List ℕ)) → IsFront lines all → AreLines s taken lines) → HasFailed faults clock crash records at all store s.written_before s.written_now → Failure s taken store
+  failure-as : (s : Streams) (taken : List ℕ) (all : List Event) (store : StoreState D) → length taken ≤ most_bytes → ((events : List Event) → IsFront events all → AreEvents s taken events) → HasFailed faults clock crash records at all store s.written_before s.written_now → Failure s taken store
   failure-as s taken all store size are it =
-      let alike = are_alike records [] it.lines in
-      let run = is_run records it.lines [] [] it.text it.refused it.w it.run in
-      let same : with_shared standing_disk (world_at records [] it.lines) ≡ with_shared (store_disk [] []) it.w = sym alike.world ∙ it.run.world in
+      let alike = are_alike [] records [] it.events in
+      let run = is_run [] records it.events [] None [] it.text it.refused (world_of it.w) (λ none. (refl, refl)) it.run in
+      let same : with_shared standing_disk (world_at [] records [] it.events) ≡ with_shared (store_disk None []) (world_of it.w) = sym alike.world ∙ it.run.world in
       record {
         made = defining it.w.definitions faulted ∷ [];
         undefined = record {
           size = size;
-          lines = it.lines;
-          are = are it.lines (record { rest = it.rest; is = it.front });
+          events = it.events;
+          are = are it.events (record { rest = it.rest; is = it.front });
           wrote = subst (Grows s.written_before s.written_now) (sym run.text_is) it.written;
           no_commits = refl;
-          unopened = unopened-as (world_at records [] it.lines).shared (ap (λ (w : World (OnDisk (List (Object Cell)))). w.shared) same ∙ ap (option_map (store_disk [] [])) it.unopened);
-          attempted = ap (λ (those : List (List ℕ)). defining those faulted ∷ []) (sym (ap (λ (w : World (OnDisk (List (Object Cell)))). w.definitions) same));
+          unopened = unopened-as (world_at [] records [] it.events).shared (ap (λ (w : ObjectsWorld). w.shared) same ∙ ap (option_map (store_disk None [])) (ap (option_map (λ (names : List (List ℕ)). it.w.store)) it.unopened));
+          attempted = ap (λ (those : List (List ℕ)). defining those faulted ∷ []) (sym (ap (λ (w : ObjectsWorld). w.definitions) same));
         };
         stands = it.stands;
       }
 
-  ended-whole : (s : Streams) (taken : List ℕ) (refused : Bool) (store : StoreState D) (it : HasFinished faults clock crash records at (script_lines taken) refused store s.written_before s.written_now) → IsAtEnd s.left_now → length taken ≤ most_bytes → IsWhole s records it.coming it.made taken refused
+  ended-whole : (s : Streams) (taken : List ℕ) (refused : Bool) (store : StoreState D) (it : HasFinished faults clock crash records at (script_events taken) refused store s.written_before s.written_now) → IsAtEnd s.left_now → length taken ≤ most_bytes → IsWhole s records it.done_so.coming (all_attempts it.done_so.opened it.done_so.tried) taken refused
   ended-whole s taken refused store it at_end size =
-      let run = is_run records (script_lines taken) it.coming it.made_before it.text refused it.w it.run in
+      let run = history-of (script_events taken) it.text refused it.w it.done_so in
       record {
         at_end = at_end;
         size = size;
         wrote = subst (Grows s.written_before s.written_now) (sym run.text_is) it.written;
         refuses = run.refused_is;
-        attempted = run.all_are ∙ it.last;
+        attempted = run.attempts_are;
+      }
+
+  whole-as : (ending : Ending) (s : Streams) (store : StoreState D) (refused : Bool) → ((outcomes : List Outcome) (made : List (Attempt Decoded)) (taken : List ℕ) → IsWhole s records outcomes made taken refused → EndsSo s records outcomes made taken ending) → EndedWhole faults clock crash records at refused s store → EndedAs ending s store
+  whole-as ending s store refused so it =
+      let d = it.finished.done_so in
+      record {
+        outcomes = d.coming;
+        made = all_attempts d.opened d.tried;
+        taken = it.taken;
+        gives = it.gives;
+        ends_so = so d.coming (all_attempts d.opened d.tried) it.taken (ended-whole s it.taken refused store it.finished it.at_end it.size);
+        stands = subst (Stands faults clock crash records at d.coming (all_attempts d.opened d.tried)) (sym it.finished.store_is) d.stands;
       }
 
   pub ended_as : (ending : Ending) (s : Streams) (store : StoreState D) → EndsRun faults clock crash records at ending s store → EndedAs ending s store
-  ended_as Accepted s store it = record { outcomes = it.finished.coming; made = it.finished.made; taken = it.taken; gives = it.gives; ends_so = ended-whole s it.taken false store it.finished it.at_end it.size; stands = it.finished.stands }
-  ended_as Refusing s store it = record { outcomes = it.finished.coming; made = it.finished.made; taken = it.taken; gives = it.gives; ends_so = ended-whole s it.taken true store it.finished it.at_end it.size; stands = it.finished.stands }
+  ended_as Accepted s store it = whole-as Accepted s store false (λ outcomes made taken wrote. wrote) it
+  ended_as Refusing s store it = whole-as Refusing s store true (λ outcomes made taken wrote. wrote) it
   ended_as SourceFault s store it = ended-broken s store it
   ended_as TooLong s store it = ended-over s store it
   ended_as SinkFault s store it = ⊎_elim
-      (λ off. let c = cut-as s off.taken (ended_lines off.taken) store off.size (λ lines front. inl front) off.stopped in let them : EndedAs SinkFault s store = record { outcomes = c.outcomes; made = c.made; taken = off.taken; gives = off.gives; ends_so = c.cut; stands = c.stands } in them)
-      (λ off. let c = cut-as s off.taken (script_lines off.taken) store off.size (λ lines front. inr (off.at_end, front)) off.stopped in let them : EndedAs SinkFault s store = record { outcomes = c.outcomes; made = c.made; taken = off.taken; gives = off.gives; ends_so = c.cut; stands = c.stands } in them) it
+      (λ off. let c = cut-as s off.taken (ended_events off.taken) store off.size (λ lines front. inl front) off.stopped in let them : EndedAs SinkFault s store = record { outcomes = c.outcomes; made = c.made; taken = off.taken; gives = off.gives; ends_so = c.cut; stands = c.stands } in them)
+      (λ off. let c = cut-as s off.taken (script_events off.taken) store off.size (λ lines front. inr (off.at_end, front)) off.stopped in let them : EndedAs SinkFault s store = record { outcomes = c.outcomes; made = c.made; taken = off.taken; gives = off.gives; ends_so = c.cut; stands = c.stands } in them) it
   ended_as NoMemory s store it = ⊎_elim
-      (λ off. let c = cut-as s off.taken (ended_lines off.taken) store off.size (λ lines front. inl front) off.stopped in let them : EndedAs NoMemory s store = record { outcomes = c.outcomes; made = c.made; taken = off.taken; gives = off.gives; ends_so = c.cut; stands = c.stands } in them)
-      (λ off. let c = cut-as s off.taken (script_lines off.taken) store off.size (λ lines front. inr (off.at_end, front)) off.stopped in let them : EndedAs NoMemory s store = record { outcomes = c.outcomes; made = c.made; taken = off.taken; gives = off.gives; ends_so = c.cut; stands = c.stands } in them) it
+      (λ off. let c = cut-as s off.taken (ended_events off.taken) store off.size (λ lines front. inl front) off.stopped in let them : EndedAs NoMemory s store = record { outcomes = c.outcomes; made = c.made; taken = off.taken; gives = off.gives; ends_so = c.cut; stands = c.stands } in them)
+      (λ off. let c = cut-as s off.taken (script_events off.taken) store off.size (λ lines front. inr (off.at_end, front)) off.stopped in let them : EndedAs NoMemory s store = record { outcomes = c.outcomes; made = c.made; taken = off.taken; gives = off.gives; ends_so = c.cut; stands = c.stands } in them) it
   ended_as DiskFault s store it = ⊎_elim
-      (λ off. let c = failure-as s off.taken (ended_lines off.taken) store off.size (λ lines front. inl front) off.stopped in let them : EndedAs DiskFault s store = record { outcomes = []; made = c.made; taken = off.taken; gives = off.gives; ends_so = c.undefined; stands = c.stands } in them)
-      (λ off. let c = failure-as s off.taken (script_lines off.taken) store off.size (λ lines front. inr (off.at_end, front)) off.stopped in let them : EndedAs DiskFault s store = record { outcomes = []; made = c.made; taken = off.taken; gives = off.gives; ends_so = c.undefined; stands = c.stands } in them) it
+      (λ off. let c = failure-as s off.taken (ended_events off.taken) store off.size (λ lines front. inl front) off.stopped in let them : EndedAs DiskFault s store = record { outcomes = []; made = c.made; taken = off.taken; gives = off.gives; ends_so = c.undefined; stands = c.stands } in them)
+      (λ off. let c = failure-as s off.taken (script_events off.taken) store off.size (λ lines front. inr (off.at_end, front)) off.stopped in let them : EndedAs DiskFault s store = record { outcomes = []; made = c.made; taken = off.taken; gives = off.gives; ends_so = c.undefined; stands = c.stands } in them) it
 
 status-five : (ending : Ending) → status_of ending ≡ 5 → ending ≡ DiskFault
 status-five DiskFault is = refl
@@ -196,20 +210,21 @@ module _ {D : Type 0} (faults clock : D → ℕ) (crash : D → ℕ → List ℕ
 
   pub begins : (store : StoreState D) (written : Option (List ℕ)) → store.doubt ≡ None → store.objects ≡ standing integers (workspace_of store.records []) → ((image : List ℕ) → crash store.disk (clock store.disk) image → LeftRecords store.records store.doubt image) → HasPlayed faults clock crash store.records store.disk [] (opened_play store) written written
   begins store written certain stands images =
-      let P : Option Decoded → Type 0 = λ doubt. Fares store.records [] [] (clock store.disk) (clock store.disk) (crash store.disk) store.records doubt in
+      let P : Option Decoded → Type 0 = λ doubt. Fares SameRecords store.records [] [] (clock store.disk) (clock store.disk) (crash store.disk) store.records doubt in
       record {
         text = [];
         lines = record {
           coming = [];
-          made = [];
-          run = run_opened store.records store stands;
+          opened = None;
+          tried = [];
+          run = run_opened [] store.records store stands;
           stands = record {
             ends = [];
             fares = subst P (sym certain) (fares_opened store.records (subst (λ doubt. (image : List ℕ) → crash store.disk (clock store.disk) image → LeftRecords store.records doubt image) certain images));
             few = inl (omega arith);
             later = later-same faults clock crash store.disk;
           };
-          is_made = λ none. refl;
+          is_made = λ none. (refl, refl);
         };
         line = refl;
         written = Grows-nothing written;
@@ -222,7 +237,7 @@ module _ {D : Type 0} (faults clock : D → ℕ) (crash : D → ℕ → List ℕ
       taken = [];
       gives = Gives-nothing left;
       size = omega arith;
-      stopped = cut_before faults clock crash records at (ended_lines []) (ended_lines []) [] h.text start.refused start.world start.world.store written written refl h.lines refl h.written;
+      stopped = cut_before faults clock crash records at (ended_events []) (ended_events []) [] h.text start.refused start.world start.world.store written written refl h.lines refl h.written;
     });
   }
 
@@ -249,7 +264,7 @@ module _ {D : Type 0} (faults clock : D → ℕ) (crash : D → ℕ → List ℕ
     rise = it.stands.fares.rise;
     loading = λ moment image from below left. passed.only moment image from (omega (arith, below)) ((it.stands.later.kept moment image below).0 left);
     crash = it.stands.fares.each;
-    leaves = if-some (content last.disk) (λ image. HoldsLeft first.records it.made (length it.made) image) (λ image told.
+    leaves = if-some (content last.disk) (λ image. HoldsLeft SameRecords first.records it.made (length it.made) image) (λ image told.
         fares_final first.records it.made it.stands.ends (clock first.disk) (clock last.disk) (crash last.disk) last.records last.doubt it.stands.fares image (is_image image told));
   }
 

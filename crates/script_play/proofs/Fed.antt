@@ -3,8 +3,11 @@ use Rattle.std.proofs.Common.{◌≡◌, ◌||◌, ℕ, Bool, false, eqb, List, 
 use Rattle.std.specs.Str.Lines.{strip_carriage_return}
 use Rattle.std.proofs.lemmas.Bool.{cond-false}
 use Rattle.aw_io.specs.Known.{Grows-append}
-use Rattle.script_world.specs.Script.{ended_lines, open_line}
-use Rattle.script_world.proofs.ScriptLaws.{ended_lines-push, open_line-push, ended_more}
+use Rattle.script_world.specs.Script.{open_line}
+use Rattle.script_world.specs.Worlds as script
+use Rattle.script_world.specs.Worlds.{ended_events}
+use Rattle.script_world.proofs.Appending.{ended_events-push, more_events}
+use Rattle.script_world.proofs.ScriptLaws.{open_line-push}
 use Rattle.script_play.specs.declared.stop.Stop.{Stop}
 use Rattle.script_play.specs.declared.stop.Stop.TheVariants.{NoMemory}
 use Rattle.script_play.specs.Playing.{Play, said_of, refuses_of, Responded, RespondedSo, HasDone, HasPlayed, HasStopped, Feeds, StopsIn}
@@ -12,34 +15,34 @@ use Rattle.script_play.proofs.Done.{done_line, cut_before, stopped_line, stopped
 
 module _ {D : Type 0} (faults clock : D → ℕ) (crash : D → ℕ → List ℕ → Type 0) where
   -- a line ended that is the open one without its carriage return
-  pub Feeds-answered : (old new : Play D) (middle now : Option (List ℕ)) (line : List ℕ) (refused : Bool) → line ≡ strip_carriage_return old.line → Responded faults clock crash line refused old.world new.world middle now → new.refused ≡ (old.refused || refused) → new.line ≡ [] → Feeds faults clock crash (10 ∷ []) old middle new now
-  Feeds-answered old new middle now line refused is r refuses none = record {
+  pub Feeds-answered : (old new : Play D) (middle now : Option (List ℕ)) (text : List ℕ) (refused : Bool) → text ≡ strip_carriage_return old.line → Responded faults clock crash text refused old.world new.world middle now → new.refused ≡ (old.refused || refused) → new.line ≡ [] → Feeds faults clock crash (10 ∷ []) old middle new now
+  Feeds-answered old new middle now text refused is r refuses none = record {
     plays = λ records at taken before h.
-        let same : line ≡ strip_carriage_return (open_line taken) = is ∙ ap strip_carriage_return h.line in
-        let lines : ended_lines taken ++ line ∷ [] ≡ ended_lines (taken ++ 10 ∷ []) = ap (λ last. ended_lines taken ++ last ∷ []) same ∙ sym (ended_lines-push taken 10) in
+        let same : text ≡ strip_carriage_return (open_line taken) = is ∙ ap strip_carriage_return h.line in
+        let lines : ended_events taken ++ script.line text ∷ [] ≡ ended_events (taken ++ 10 ∷ []) = ap (λ last. ended_events taken ++ script.line last ∷ []) same ∙ sym (ended_events-push taken 10) in
         let all : (old.refused || refuses_of r.response) ≡ new.refused = ap (λ it. old.refused || it) (sym r.refuses) ∙ sym refuses in
-        let did : HasDone faults clock crash records at (ended_lines taken ++ line ∷ []) (h.text ++ said_of r.response) (old.refused || refuses_of r.response) new.world = done_line faults clock crash records at line r.response (ended_lines taken) h.text old.refused old.world new.world h.lines r.answers in
+        let did : HasDone faults clock crash records at (ended_events taken ++ script.line text ∷ []) (h.text ++ said_of r.response) (old.refused || refuses_of r.response) new.world = done_line faults clock crash records at text r.response (ended_events taken) h.text old.refused old.world new.world h.lines r.answers in
         record {
           text = h.text ++ said_of r.response;
-          lines = subst (λ those. HasDone faults clock crash records at those (h.text ++ said_of r.response) new.refused new.world) lines (subst (λ it. HasDone faults clock crash records at (ended_lines taken ++ line ∷ []) (h.text ++ said_of r.response) it new.world) all did);
+          lines = subst (λ those. HasDone faults clock crash records at those (h.text ++ said_of r.response) new.refused new.world) lines (subst (λ it. HasDone faults clock crash records at (ended_events taken ++ script.line text ∷ []) (h.text ++ said_of r.response) it new.world) all did);
           line = none ∙ sym (open_line-push taken 10);
           written = Grows-append h.written r.written;
         };
   }
 
-  pub StopsIn-answered : (stop : Stop) (old new : Play D) (middle now : Option (List ℕ)) (line : List ℕ) → line ≡ strip_carriage_return old.line → RespondedSo faults clock crash line (Err stop) old.world new.world middle now → StopsIn faults clock crash stop (10 ∷ []) old middle new now
-  StopsIn-answered stop old new middle now line is r = record {
+  pub StopsIn-answered : (stop : Stop) (old new : Play D) (middle now : Option (List ℕ)) (text : List ℕ) → text ≡ strip_carriage_return old.line → RespondedSo faults clock crash text (Err stop) old.world new.world middle now → StopsIn faults clock crash stop (10 ∷ []) old middle new now
+  StopsIn-answered stop old new middle now text is r = record {
     stops = λ records at taken before h.
-        let same : line ≡ strip_carriage_return (open_line taken) = is ∙ ap strip_carriage_return h.line in
-        let lines : ended_lines taken ++ line ∷ [] ≡ ended_lines (taken ++ 10 ∷ []) = ap (λ last. ended_lines taken ++ last ∷ []) same ∙ sym (ended_lines-push taken 10) in
-        subst (λ those. HasStopped faults clock crash records at stop those new.world.store before now) lines (stopped_line faults clock crash records at stop line (ended_lines taken) h.text old.refused old.world new.world before middle now h.lines h.written r);
+        let same : text ≡ strip_carriage_return (open_line taken) = is ∙ ap strip_carriage_return h.line in
+        let lines : ended_events taken ++ script.line text ∷ [] ≡ ended_events (taken ++ 10 ∷ []) = ap (λ last. ended_events taken ++ script.line last ∷ []) same ∙ sym (ended_events-push taken 10) in
+        subst (λ those. HasStopped faults clock crash records at stop those new.world.store before now) lines (stopped_line faults clock crash records at stop text (ended_events taken) h.text old.refused old.world new.world before middle now h.lines h.written r);
   }
 
   -- the line goes on
   pub Feeds-more : (b : ℕ) (old : Play D) (line : List ℕ) (now : Option (List ℕ)) → eqb b 10 ≡ false → line ≡ old.line ++ b ∷ [] → Feeds faults clock crash (b ∷ []) old now (record old { line = line }) now
   Feeds-more b old line now other is = record {
     plays = λ records at taken before h.
-        let ended : ended_lines (taken ++ b ∷ []) ≡ ended_lines taken = ended_lines-push taken b ∙ cond-false (eqb b 10) _ _ other in
+        let ended : ended_events (taken ++ b ∷ []) ≡ ended_events taken = ended_events-push taken b ∙ cond-false (eqb b 10) _ _ other in
         record {
           text = h.text;
           lines = subst (λ those. HasDone faults clock crash records at those h.text old.refused old.world) (sym ended) h.lines;
@@ -51,8 +54,8 @@ module _ {D : Type 0} (faults clock : D → ℕ) (crash : D → ℕ → List ℕ
   pub StopsIn-nothing : (bytes : List ℕ) (old : Play D) (line : List ℕ) (now : Option (List ℕ)) → StopsIn faults clock crash NoMemory bytes old now (record old { line = line }) now
   StopsIn-nothing bytes old line now = record {
     stops = λ records at taken before h.
-        let more = ended_more taken bytes in
-        cut_before faults clock crash records at (ended_lines (taken ++ bytes)) (ended_lines taken) more.lines h.text old.refused old.world old.world.store before now more.is h.lines refl h.written;
+        let more = more_events taken bytes in
+        cut_before faults clock crash records at (ended_events (taken ++ bytes)) (ended_events taken) more.events h.text old.refused old.world old.world.store before now more.is h.lines refl h.written;
   }
 
   -- ---- bytes one after the other
@@ -69,12 +72,12 @@ module _ {D : Type 0} (faults clock : D → ℕ) (crash : D → ℕ → List ℕ
   pub StopsIn-append : {stop : Stop} {first next : List ℕ} {a b c : Play D} {u v w : Option (List ℕ)} → Feeds faults clock crash first a u b v → StopsIn faults clock crash stop next b v c w → StopsIn faults clock crash stop (first ++ next) a u c w
   StopsIn-append {stop} {first} {next} {c = c} {w = w} f g = record {
     stops = λ records at taken before h.
-        subst (λ bytes. HasStopped faults clock crash records at stop (ended_lines bytes) c.world.store before w) (append_assoc taken first next) (g.stops records at (taken ++ first) before (f.plays records at taken before h));
+        subst (λ bytes. HasStopped faults clock crash records at stop (ended_events bytes) c.world.store before w) (append_assoc taken first next) (g.stops records at (taken ++ first) before (f.plays records at taken before h));
   }
 
   pub StopsIn-more : {stop : Stop} {bytes : List ℕ} (more : List ℕ) {a c : Play D} {u w : Option (List ℕ)} → StopsIn faults clock crash stop bytes a u c w → StopsIn faults clock crash stop (bytes ++ more) a u c w
   StopsIn-more {stop} {bytes} more {c = c} {w = w} f = record {
     stops = λ records at taken before h.
-        let longer = ended_more (taken ++ bytes) more in
-        stopped_more faults clock crash records at stop (ended_lines (taken ++ bytes)) longer.lines (ended_lines (taken ++ (bytes ++ more))) c.world.store before w (ap ended_lines (sym (append_assoc taken bytes more)) ∙ longer.is) (f.stops records at taken before h);
+        let longer = more_events (taken ++ bytes) more in
+        stopped_more faults clock crash records at stop (ended_events (taken ++ bytes)) longer.events (ended_events (taken ++ (bytes ++ more))) c.world.store before w (ap ended_events (sym (append_assoc taken bytes more)) ∙ longer.is) (f.stops records at taken before h);
   }

@@ -1,11 +1,13 @@
 -- What the parts of a line's answer mean on the machine.
-use Rattle.std.specs.Prelude.{◌≡◌, ◌≤◌, ◌<◌, ◌&&◌, ◌++◌, ◌⊎◌, ℕ, Bool, true, false, List, [], ◌∷◌, length, nat_lt, Option, None, Some, Result, Err, is_none, if◌then◌else◌, slice_index_or, slice_set, refl}
-use Rattle.std.specs.Option.{option_map}
+use Rattle.std.specs.Prelude.{◌≡◌, ◌≢◌, ◌≤◌, ◌<◌, ◌&&◌, ◌++◌, ◌⊎◌, ℕ, zero, suc, min, Bool, true, false, List, [], ◌∷◌, length, map, nat_lt, Option, None, Some, Result, Ok, Err, is_none, if◌then◌else◌, slice_index_or, slice_set, refl}
+use Rattle.std.specs.Option.{option_map, option_to_list}
 use Rattle.std.proofs.Common.{◌∙◌, ap, ap₂, sym, subst, inl, inr, ⊎_elim, arith, append_assoc, append-nil, length-set, length-append}
-use Rattle.std.proofs.lemmas.Bool.{true≢false, and_parts, lt-ltb, le-ltb, ltb-true}
+use Rattle.std.proofs.lemmas.Bool.{true≢false, and_parts, lt-ltb, le-ltb, ltb-true, ltb-false}
 use Rattle.std.proofs.lemmas.Option.{none-some}
 use Rattle.aw_cell.specs.declared.cell.Cell.{Cell}
-use Rattle.aw_cell.specs.Names.{is_name}
+use Rattle.aw_cell.specs.Names.{same_word, is_name}
+use Rattle.aw_codec.specs.declared.record.Decoded.{Decoded}
+use Rattle.aw_codec.specs.declared.record.Decoded.TheVariants.{Definitions}
 use Rattle.mv_core.specs.declared.entry.Entry.{Entry}
 use Rattle.mv_core.specs.declared.entry.Entry.TheVariants as entry
 use Rattle.mv_core.specs.declared.entry.Reply.{Reply}
@@ -13,7 +15,9 @@ use Rattle.mv_core.specs.declared.object.Object.{Object}
 use Rattle.mv_core.specs.SharedStep.{writes}
 use Rattle.aw_store.specs.Replay.{names_of}
 use Rattle.aw_store.specs.Stores.{StoreState}
+use Rattle.ses_report.specs.Refusals.{no_form}
 use Rattle.ses_step.specs.declared.answer.Answer.{Answer}
+use Rattle.ses_step.specs.Answers.{answer_of}
 use Rattle.ses_step.specs.declared.line.Command.{Command}
 use Rattle.ses_step.specs.declared.line.Line.{Line}
 use Rattle.ses_step.specs.declared.line.Line.TheVariants as line
@@ -21,84 +25,119 @@ use Rattle.ses_step.specs.declared.session.Session.{Session}
 use Rattle.ses_step.specs.Words.{place_of}
 use Rattle.ses_step.specs.Lines.{line_form}
 use Rattle.ses_step.specs.Sessions.{new_session, name_at}
-use Rattle.script_world.specs.Worlds.{World, Turn, turn, Answered, answered_so, refused_as_no_form, no_session, silent, defined, with_session, closed, turned, commanded, session_answered}
-use Rattle.script_world.specs.Outcomes.{Outcome, done, Attempt, OnDisk, objects_machine, by_objects}
-use Rattle.script_world.specs.StoreTurns.{store_disk}
-use Rattle.script_world.specs.Transcript.{attempts_of}
-use Rattle.script_world.proofs.AssignedIntegers.{HasInteger, line_form-integer}
-use Rattle.script_world.proofs.Defining.{definable-push}
-use Rattle.script_world.proofs.DiskTurns.{Writes, IsOfViews, asked-of_views, turn-cases}
+use Rattle.script_world.specs.Outcomes.{Outcome, done, Attempt, OnDisk, as_done, all_attempts, attempts_of}
+use Rattle.script_world.specs.Worlds.{Answered, answered_so, refused_so, no_session, silent, defined, defined_so, answers, session_place, with_session, closed, shared_of, commanded, crowded_out, session_planned, settled, block_ends, script_ends}
+use Rattle.script_world.proofs.Moves.{position-le}
+use Rattle.script_meaning.specs.Language.{language, can_define, defined_by, is_any, objects_machine, ObjectsDisk, ObjectsWorld}
+use Rattle.script_meaning.specs.StoreRuns.{store_disk}
+use Rattle.script_meaning.specs.TakingTurns.{with_turn}
+use Rattle.script_meaning.specs.Turns.{Turn, turn}
+use Rattle.script_meaning.proofs.AssignedIntegers.{HasInteger, line_form-integer}
+use Rattle.script_meaning.proofs.Defining.{definable-push}
+use Rattle.script_meaning.proofs.Begins.{AskedOf, asked_by}
+use Rattle.script_meaning.proofs.DiskTurns.{Writes, turn-cases}
+use Rattle.script_meaning.proofs.TakingTurns.{commanded-turn}
 use Rattle.script_play.specs.declared.world.StoreWorld.{StoreWorld}
 use Rattle.script_play.specs.declared.response.Response.{Response}
 use Rattle.script_play.specs.declared.stop.Stop.{Stop}
 use Rattle.script_play.specs.declared.stop.Stop.TheVariants.{SinkFault, DiskFault, NoMemory}
 use Rattle.script_play.specs.StoreWorlds.{on_machine, IsMade, IsSound, answered_by, refused_response, can_join, JoinsSo, own_place, placed}
-use Rattle.script_play.specs.Turning.{defining, IsOpen, DefinesName, command_means, session_means, named_means, form_means, Moves, Turned, TurnTakes, TurnWants, TurnsAt, Answers, Takes, Wants, Opens, ClosesSo, StopsSo, RespondsSo}
+use Rattle.script_play.specs.Turning.{machine, Means, joined, defining, IsOpen, DefinesName, command_means, session_means, named_means, form_means, event_means, Moves, Turned, TurnTakes, TurnWants, TurnsAt, Answers, Responds, Takes, Wants, Opens, ClosesSo, StopsSo, RespondsSo}
 use Rattle.script_play.proofs.Turning.{moves-nothing, moves-then}
 
 -- ---- the first command of a session that isn't attached makes no attempt
 
-never-writes : (who : ℕ) (asked : Entry) (reply : Reply) → IsOfViews (new_session who) asked → writes asked reply ≡ true → ⊥
+never-writes : (who : ℕ) (asked : Entry) (reply : Reply) → AskedOf (new_session who) asked → writes asked reply ≡ true → ⊥
 never-writes who (entry.Attach by) reply of writing = true≢false (sym writing)
 never-writes who (entry.Acquire by object number) reply of writing = true≢false (sym writing)
-never-writes who (entry.Commit by []) reply of writing = true≢false (sym writing)
-never-writes who (entry.Commit by (change ∷ changes)) reply of writing = none-some of.0 of.1
+never-writes who (entry.Commit by []) reply of writing = absurd of
+never-writes who (entry.Commit by (change ∷ changes)) reply of writing = none-some of.0 of.2
 
-first-turn : (all : List Outcome) (definitions names : List (List ℕ)) (disk : OnDisk (List (Object Cell))) (who : ℕ) (command : Command) → (turn (by_objects all) definitions names disk (new_session who) command).shared.attempts ≡ disk.attempts
-first-turn all definitions names disk who command =
-    let never : (asked : Entry) → Writes objects_machine definitions disk.state (new_session who) command asked true → ⊥ = λ asked it. never-writes who asked _ (asked-of_views definitions (new_session who) command asked it.asks) it.is in
-    turn-cases objects_machine all definitions names disk (new_session who) command (λ (t : Turn (OnDisk (List (Object Cell)))). t.shared.attempts ≡ disk.attempts) (λ unwritten. refl) (λ asked coming it. absurd (never asked it)) (λ asked coming it. absurd (never asked it))
+first-turn : (next : ℕ → Outcome) (definitions names : List (List ℕ)) (disk : ObjectsDisk) (who : ℕ) (command : Command) → attempts_of (Some (turn (machine next) definitions names disk (new_session who) command).shared) ≡ attempts_of (Some disk)
+first-turn next definitions names disk who command =
+    let never : (asked : Entry) → Writes objects_machine definitions disk.state (new_session who) command asked true → ⊥ = λ asked it. never-writes who asked _ (asked_by definitions (new_session who) command asked it.asks).1 it.is in
+    turn-cases objects_machine next definitions names disk (new_session who) command (λ (t : Turn ObjectsDisk). attempts_of (Some t.shared) ≡ attempts_of (Some disk)) (λ unwritten. refl) (λ asked it. absurd (never asked it)) (λ asked it. absurd (never asked it))
 
 -- a world that was just opened, in which no session has appeared
-abbrev just_opened : List (List ℕ) → OnDisk (List (Object Cell)) → World (OnDisk (List (Object Cell)))
-just_opened definitions disk = record { definitions = definitions; shared = Some disk; names = []; sessions = [] }
+abbrev just_opened : List (List ℕ) → ObjectsDisk → ObjectsWorld
+just_opened definitions disk = record { definitions = definitions; open_lines = []; shared = Some disk; names = []; sessions = [] }
 
-first-line : (all : List Outcome) (definitions : List (List ℕ)) (disk : OnDisk (List (Object Cell))) (name : List ℕ) (command : Option Command) → attempts_of (session_answered (by_objects all) (just_opened definitions disk) name command).world.shared ≡ disk.attempts
-first-line all definitions disk name None = refl
-first-line all definitions disk name (Some command) = first-turn all definitions (name ∷ []) disk 0 command
+first-line : (next : ℕ → Outcome) (definitions : List (List ℕ)) (disk : ObjectsDisk) (name : List ℕ) (command : Option Command) → attempts_of (session_means name command next (just_opened definitions disk)).world.shared ≡ attempts_of (Some disk)
+first-line next definitions disk name None = refl
+first-line next definitions disk name (Some command) =
+    let w : ObjectsWorld = with_session (just_opened definitions disk) name in
+    ap (λ (a : Answered language ObjectsDisk). attempts_of a.world.shared) (commanded-turn (machine next) w 0 disk refl command) ∙ first-turn next definitions (name ∷ []) disk 0 command
+
+-- more attempts behind those that were made
+behind-none : (opened : Option Decoded) (tried more : List (Attempt Decoded)) → all_attempts opened (tried ++ more) ≡ all_attempts opened tried ++ more
+behind-none opened tried more = sym (append_assoc (map as_done (option_to_list opened)) tried more)
+
+-- an element put back
+set-held : {X : Type 0} (xs : List X) (i : ℕ) (default : X) → i < length xs → slice_set xs i (slice_index_or xs i default) ≡ xs
+set-held [] i default inside = refl
+set-held (x ∷ xs) zero default inside = refl
+set-held (x ∷ xs) (suc i) default inside = ap (λ rest. x ∷ rest) (set-held xs i default (omega (arith, inside)))
 
 module _ {D : Type 0} (faults clock : D → ℕ) (crash : D → ℕ → List ℕ → Type 0) where
-  -- a line that changes nothing
-  pub answers_still : (means : List Outcome → World (OnDisk (List (Object Cell))) → Answered (OnDisk (List (Object Cell)))) (response : Option Response) (w : StoreWorld (StoreState D)) → ((made : List Attempt) → means [] (on_machine made [] w) ≡ answered_by response (on_machine made [] w)) → Answers faults clock crash means response w w
+  -- an event that changes nothing
+  pub answers_still : (means : Means) (response : Option Response) (w : StoreWorld (StoreState D)) → ((next : ℕ → Outcome) (opened : Option Decoded) (tried : List (Attempt Decoded)) → means next (on_machine opened tried w) ≡ answered_by response (on_machine opened tried w)) → Answers faults clock crash means response w w
   answers_still means response w is = record {
     told = [];
     more = [];
+    as_many = refl;
     moves = moves-nothing faults clock crash w.store;
-    means_so = λ made made_is. is made ∙ ap (λ those. answered_by response (on_machine those [] w)) (sym (append-nil made));
-    all_made = λ made made_is none. append-nil made ∙ made_is none;
+    means_so = λ next opened tried made tells. is next opened tried ∙ ap (λ those. answered_by response (on_machine opened those w)) (sym (append-nil tried));
+    all_made = λ opened tried made none. ((made none).0, append-nil tried ∙ (made none).1);
     keeps_sound = λ sound. sound;
+  }
+
+  -- an event that writes no record of definitions
+  pub responds : (means : Means) (response : Option Response) (old new : StoreWorld (StoreState D)) → Answers faults clock crash means response old new → Responds faults clock crash means response old new
+  responds means response old new it = record {
+    opening = None;
+    told = it.told;
+    more = it.more;
+    as_many = it.as_many;
+    moves = it.moves;
+    means_so = it.means_so;
+    all_made = it.all_made;
+    behind = λ opened tried made. behind-none opened tried it.more;
+    keeps_sound = it.keeps_sound;
   }
 
   -- ---- a command
 
-  pub command_none : (who : ℕ) (command : Option Command) (response : Response) (prefix : List ℕ) (w : StoreWorld (StoreState D)) → command ≡ None → prefix ≡ name_at w.names who → response ≡ refused_response prefix → Answers faults clock crash (command_means who command) (Some response) w w
-  command_none who command response prefix w is prefix_is response_is =
+  pub command_none : (who : ℕ) (command : Option Command) (response : Response) (prefix : List ℕ) (w : StoreWorld (StoreState D)) → command ≡ None → prefix ≡ name_at w.names who → response ≡ refused_response prefix → IsOpen w.store → who < length w.sessions → Answers faults clock crash (command_means who command) (Some response) w w
+  command_none who command response prefix w is prefix_is response_is open_is here =
       let said : response ≡ refused_response (name_at w.names who) = response_is ∙ ap refused_response prefix_is in
       subst (λ it. Answers faults clock crash (command_means who command) (Some it) w w) (sym said) (subst (λ it. Answers faults clock crash (command_means who it) (Some (refused_response (name_at w.names who))) w w) (sym is)
-      (answers_still (command_means who None) (Some (refused_response (name_at w.names who))) w (λ made. refl)))
+      (answers_still (command_means who None) (Some (refused_response (name_at w.names who))) w (λ next opened tried.
+      ap (λ (those : List Session). let it : ObjectsWorld = record (on_machine opened tried w) { sessions = those } in answered_by (Some (refused_response (name_at w.names who))) it) (set-held w.sessions who (new_session who) here))))
 
   module _ (who : ℕ) (it : Command) (old : StoreWorld (StoreState D)) (names : List (List ℕ)) (is : names_of old.store.records ≡ Some names) where
     -- the world by what is found of the names, and with another store and other sessions
-    abbrev over : List Attempt → List Outcome → StoreState D → List Session → Option (List (List ℕ)) → World (OnDisk (List (Object Cell)))
-    over made coming store sessions found = record { definitions = old.definitions; shared = option_map (store_disk made coming) (option_map (λ (names : List (List ℕ)). store) found); names = old.names; sessions = sessions }
+    abbrev over : Option Decoded → List (Attempt Decoded) → StoreState D → List Session → Option (List (List ℕ)) → ObjectsWorld
+    over opened tried store sessions found = record { definitions = old.definitions; open_lines = []; shared = option_map (store_disk opened tried) (option_map (λ (names : List (List ℕ)). store) found); names = old.names; sessions = sessions }
 
-    abbrev taken : List Outcome → List Attempt → Turn (OnDisk (List (Object Cell)))
-    taken told made = turn (by_objects told) old.definitions old.names (store_disk made told old.store) (slice_index_or old.sessions who (new_session who)) it
+    abbrev taken : (ℕ → Outcome) → Option Decoded → List (Attempt Decoded) → Turn ObjectsDisk
+    taken next opened tried = turn (machine next) old.definitions old.names (store_disk opened tried old.store) (slice_index_or old.sessions who (new_session who)) it
 
-    command-is : (told : List Outcome) (made : List Attempt) → commanded (by_objects told) (on_machine made told old) who (Some it) ≡ turned (by_objects told) (over made told old.store old.sessions (Some names)) who (taken told made)
-    command-is told made = ap (λ found. commanded (by_objects told) (over made told old.store old.sessions found) who (Some it)) is
+    command-is : (next : ℕ → Outcome) (opened : Option Decoded) (tried : List (Attempt Decoded)) → command_means who (Some it) next (on_machine opened tried old) ≡ with_turn (over opened tried old.store old.sessions (Some names)) who (taken next opened tried)
+    command-is next opened tried =
+        ap (λ found. command_means who (Some it) next (over opened tried old.store old.sessions found)) is ∙ commanded-turn (machine next) (over opened tried old.store old.sessions (Some names)) who (store_disk opened tried old.store) refl it
 
     command-answers : (answer : Answer) (after : Session) (store : StoreState D) → Turned faults clock crash old.definitions old.names it answer (slice_index_or old.sessions who (new_session who)) after old.store store →
         Answers faults clock crash (command_means who (Some it)) (Some (record { prefix = name_at old.names who; answer = answer })) old (record old { store = store; sessions = slice_set old.sessions who after })
     command-answers answer after store t = record {
       told = t.told;
       more = t.more;
+      as_many = t.as_many;
       moves = t.moves;
-      means_so = λ made made_is.
-          command-is t.told made
-          ∙ ap (turned (by_objects t.told) (over made t.told old.store old.sessions (Some names)) who) (t.turns made)
-          ∙ ap (λ found. let w : World (OnDisk (List (Object Cell))) = over (made ++ t.more) [] store (slice_set old.sessions who after) found in answered_so (name_at old.names who) answer w) (sym (t.moves.keeps_open names is));
-      all_made = λ made made_is none. absurd (none-some names (sym none ∙ t.moves.keeps_open names is));
+      means_so = λ next opened tried made tells.
+          command-is next opened tried
+          ∙ ap (with_turn (over opened tried old.store old.sessions (Some names)) who) (t.turns next opened tried tells)
+          ∙ ap (λ found. let w : ObjectsWorld = over opened (tried ++ t.more) store (slice_set old.sessions who after) found in answered_so (name_at old.names who) (answer_of answer) w) (sym (t.moves.keeps_open names is));
+      all_made = λ opened tried made none. absurd (none-some names (sym none ∙ t.moves.keeps_open names is));
       keeps_sound = λ sound. record {
         paired = length-set old.sessions who after ∙ sound.paired;
         defined = λ none. absurd (none-some names (sym none ∙ t.moves.keeps_open names is));
@@ -112,7 +151,7 @@ module _ {D : Type 0} (faults clock : D → ℕ) (crash : D → ℕ → List ℕ
       told = t.told;
       more = t.more;
       moves = t.moves;
-      made_so = λ made made_is. ap (λ (a : Answered (OnDisk (List (Object Cell)))). attempts_of a.world.shared) (command-is t.told made) ∙ t.made_so made;
+      made_so = λ next opened tried made tells. ap (λ (a : Answered language ObjectsDisk). attempts_of a.world.shared) (command-is next opened tried) ∙ t.made_so next opened tried tells;
     }
 
   pub command_some : (who : ℕ) (command : Option Command) (it : Command) (answer : Answer) (prefix : List ℕ) (old new : StoreWorld (StoreState D)) → command ≡ Some it → prefix ≡ name_at old.names who → IsOpen old.store → TurnsAt faults clock crash it answer who old new → Answers faults clock crash (command_means who command) (Some (record { prefix = prefix; answer = answer })) old new
@@ -128,26 +167,26 @@ module _ {D : Type 0} (faults clock : D → ℕ) (crash : D → ℕ → List ℕ
 
   -- ---- under a session's name
 
-  placed-is : (made : List Attempt) (coming : List Outcome) (w : StoreWorld (StoreState D)) (name : List ℕ) → with_session (on_machine made coming w) name ≡ on_machine made coming (placed w name)
-  placed-is made coming w name = by_test (nat_lt (own_place w name) (length w.names))
+  placed-is : (opened : Option Decoded) (tried : List (Attempt Decoded)) (w : StoreWorld (StoreState D)) (name : List ℕ) → with_session (on_machine opened tried w) name ≡ on_machine opened tried (placed w name)
+  placed-is opened tried w name = by_test (nat_lt (own_place w name) (length w.names))
     where
-      there : World (OnDisk (List (Object Cell)))
-      there = on_machine made coming w
+      there : ObjectsWorld
+      there = on_machine opened tried w
 
-      by_test : (test : Bool) → (if test then there else record there { names = w.names ++ name ∷ []; sessions = w.sessions ++ new_session (own_place w name) ∷ [] }) ≡ record there { names = if test then w.names else w.names ++ name ∷ []; sessions = if test then w.sessions else w.sessions ++ new_session (own_place w name) ∷ [] }
+      more : List Session
+      more = if nat_lt (length w.names) 64 then w.sessions ++ new_session (length w.names) ∷ [] else w.sessions
+
+      by_test : (test : Bool) → (if test then there else record there { names = w.names ++ name ∷ []; sessions = more }) ≡ record there { names = if test then w.names else w.names ++ name ∷ []; sessions = if test then w.sessions else more }
       by_test true = refl
       by_test false = refl
 
-  session-is : (told : List Outcome) (made : List Attempt) (w : StoreWorld (StoreState D)) (name : List ℕ) (command : Option Command) → own_place w name < 64 → session_answered (by_objects told) (on_machine made told w) name command ≡ commanded (by_objects told) (on_machine made told (placed w name)) (own_place w name) command
-  session-is told made w name command room =
-      ap (λ test. if test then commanded (by_objects told) (with_session (on_machine made told w) name) (own_place w name) command else refused_as_no_form no_session (on_machine made told w)) (lt-ltb (own_place w name) 64 room)
-      ∙ ap (λ those. commanded (by_objects told) those (own_place w name) command) (placed-is made told w name)
+  abbrev planned_at : (ℕ → Outcome) → Option Command → ℕ → ObjectsWorld → Bool → Answered language ObjectsDisk
+  planned_at next command place w room =
+      settled (machine next) (if room then commanded w (shared_of (machine next).opens w) place command else answers (crowded_out w place))
 
-  pub session_full : (name : List ℕ) (command : Option Command) (response : Response) (w : StoreWorld (StoreState D)) → 64 ≤ own_place w name → response ≡ refused_response no_session → Answers faults clock crash (session_means name command) (Some response) w w
-  session_full name command response w full response_is =
-      subst (λ it. Answers faults clock crash (session_means name command) (Some it) w w) (sym response_is)
-      (answers_still (session_means name command) (Some (refused_response no_session)) w (λ made.
-      ap (λ test. if test then commanded (by_objects []) (with_session (on_machine made [] w) name) (own_place w name) command else refused_as_no_form no_session (on_machine made [] w)) (le-ltb (own_place w name) 64 full)))
+  session-is : (next : ℕ → Outcome) (opened : Option Decoded) (tried : List (Attempt Decoded)) (w : StoreWorld (StoreState D)) (name : List ℕ) (command : Option Command) → session_means name command next (on_machine opened tried w) ≡ planned_at next command (own_place w name) (on_machine opened tried (placed w name)) (nat_lt (own_place w name) 64)
+  session-is next opened tried w name command =
+      ap (λ those. planned_at next command (own_place w name) those (nat_lt (own_place w name) 64)) (placed-is opened tried w name)
 
   placed-sound : (w : StoreWorld (StoreState D)) (name : List ℕ) → IsOpen w.store → IsSound w → IsSound (placed w name)
   placed-sound w name open_is sound = record {
@@ -157,20 +196,58 @@ module _ {D : Type 0} (faults clock : D → ℕ) (crash : D → ℕ → List ℕ
     no_sessions = λ none. absurd (none-some open_is.0 (sym none ∙ open_is.1));
   }
     where
-      by_test : (test : Bool) → length (if test then w.sessions else w.sessions ++ new_session (own_place w name) ∷ []) ≡ length (if test then w.names else w.names ++ name ∷ [])
+      by_room : (room : Bool) → nat_lt (length w.names) 64 ≡ room → length (if room then w.sessions ++ new_session (length w.names) ∷ [] else w.sessions) ≡ min (length (w.names ++ name ∷ [])) 64
+      by_room true room =
+          omega (arith, sound.paired, ltb-true (length w.names) 64 room, length-append w.sessions (new_session (length w.names) ∷ []), length-append w.names (name ∷ []))
+      by_room false full = omega (arith, sound.paired, ltb-false (length w.names) 64 full, length-append w.names (name ∷ []))
+
+      by_test : (test : Bool) → length (if test then w.sessions else (if nat_lt (length w.names) 64 then w.sessions ++ new_session (length w.names) ∷ [] else w.sessions)) ≡ min (length (if test then w.names else w.names ++ name ∷ [])) 64
       by_test true = sound.paired
-      by_test false = omega (arith, sound.paired, length-append w.sessions (new_session (own_place w name) ∷ []), length-append w.names (name ∷ []))
+      by_test false = by_room (nat_lt (length w.names) 64) refl
+
+  -- a session that is one of 64 stands at its place
+  pub placed-inside : (w : StoreWorld (StoreState D)) (name : List ℕ) → length w.sessions ≡ min (length w.names) 64 → own_place w name < 64 → own_place w name < length (placed w name).sessions
+  placed-inside w name paired room = by_test (nat_lt (own_place w name) (length w.names)) refl
+    where
+      by_room : (test : Bool) → nat_lt (length w.names) 64 ≡ test → nat_lt (own_place w name) (length w.names) ≡ false → own_place w name < length (if test then w.sessions ++ new_session (length w.names) ∷ [] else w.sessions)
+      by_room true small is =
+          omega (arith, paired, ltb-true (length w.names) 64 small, length-append w.sessions (new_session (length w.names) ∷ []), position-le (same_word name) w.names)
+      by_room false full is = omega (arith, paired, ltb-false (length w.names) 64 full, room)
+
+      by_test : (test : Bool) → nat_lt (own_place w name) (length w.names) ≡ test → own_place w name < length (if test then w.sessions else (if nat_lt (length w.names) 64 then w.sessions ++ new_session (length w.names) ∷ [] else w.sessions))
+      by_test true is = omega (arith, paired, ltb-true (own_place w name) (length w.names) is, room)
+      by_test false is = by_room (nat_lt (length w.names) 64) refl is
+
+  pub session_full : (name : List ℕ) (command : Option Command) (response : Response) (place : ℕ) (w middle : StoreWorld (StoreState D)) → place ≡ own_place w name → 64 ≤ place → IsOpen w.store → middle ≡ placed w name → response ≡ refused_response no_session → Answers faults clock crash (session_means name command) (Some response) w middle
+  session_full name command response place w middle place_is full open_is middle_is response_is =
+      subst (λ (those : StoreWorld (StoreState D)). Answers faults clock crash (session_means name command) (Some response) w those) (sym middle_is)
+      (subst (λ it. Answers faults clock crash (session_means name command) (Some it) w (placed w name)) (sym response_is) (record {
+        told = [];
+        more = [];
+        as_many = refl;
+        moves = moves-nothing faults clock crash w.store;
+        means_so = λ next opened tried made tells.
+            session-is next opened tried w name command
+            ∙ ap (planned_at next command (own_place w name) (on_machine opened tried (placed w name))) (le-ltb (own_place w name) 64 (subst (λ at. 64 ≤ at) place_is full))
+            ∙ ap (λ those. answered_by (Some (refused_response no_session)) (on_machine opened those (placed w name))) (sym (append-nil tried));
+        all_made = λ opened tried made none. absurd (none-some open_is.0 (sym none ∙ open_is.1));
+        keeps_sound = placed-sound w name open_is;
+      }))
 
   pub session_some : (name : List ℕ) (command : Option Command) (response : Response) (place : ℕ) (w middle new : StoreWorld (StoreState D)) → place ≡ own_place w name → place < 64 → IsOpen w.store → middle ≡ placed w name → Answers faults clock crash (command_means place command) (Some response) middle new → Answers faults clock crash (session_means name command) (Some response) w new
-  session_some name command response place w middle new place_is room open_is middle_is answers =
-      from_placed (subst (λ at. at < 64) place_is room) (subst (λ at. Answers faults clock crash (command_means at command) (Some response) (placed w name) new) place_is (subst (λ those. Answers faults clock crash (command_means place command) (Some response) those new) middle_is answers))
+  session_some name command response place w middle new place_is room open_is middle_is given =
+      from_placed (subst (λ at. at < 64) place_is room) (subst (λ at. Answers faults clock crash (command_means at command) (Some response) (placed w name) new) place_is (subst (λ those. Answers faults clock crash (command_means place command) (Some response) those new) middle_is given))
     where
       from_placed : own_place w name < 64 → Answers faults clock crash (command_means (own_place w name) command) (Some response) (placed w name) new → Answers faults clock crash (session_means name command) (Some response) w new
       from_placed small it = record {
         told = it.told;
         more = it.more;
+        as_many = it.as_many;
         moves = it.moves;
-        means_so = λ made made_is. session-is it.told made w name command small ∙ it.means_so made made_is;
+        means_so = λ next opened tried made tells.
+            session-is next opened tried w name command
+            ∙ ap (planned_at next command (own_place w name) (on_machine opened tried (placed w name))) (lt-ltb (own_place w name) 64 small)
+            ∙ it.means_so next opened tried made tells;
         all_made = it.all_made;
         keeps_sound = λ sound. it.keeps_sound (placed-sound w name open_is sound);
       }
@@ -185,64 +262,91 @@ module _ {D : Type 0} (faults clock : D → ℕ) (crash : D → ℕ → List ℕ
             told = takes.told;
             more = takes.more;
             moves = takes.moves;
-            made_so = λ made made_is. ap (λ (a : Answered (OnDisk (List (Object Cell)))). attempts_of a.world.shared) (session-is takes.told made w name command small) ∙ takes.made_so made made_is;
+            made_so = λ next opened tried made tells.
+                ap (λ (a : Answered language ObjectsDisk). attempts_of a.world.shared) (session-is next opened tried w name command ∙ ap (planned_at next command (own_place w name) (on_machine opened tried (placed w name))) (lt-ltb (own_place w name) 64 small))
+                ∙ takes.made_so next opened tried made tells;
           })) it
 
-  -- ---- a line that closes the definitions
+  -- ---- an event that closes the definitions
 
-  closed-already : (told : List Outcome) (made : List Attempt) (w : StoreWorld (StoreState D)) → IsOpen w.store → closed (by_objects told) (on_machine made told w) ≡ on_machine made told w
-  closed-already told made w open_is =
-      subst (λ found. closed (by_objects told) (over found) ≡ over found) (sym open_is.1) refl
+  closed-already : (next : ℕ → Outcome) (opened : Option Decoded) (tried : List (Attempt Decoded)) (w : StoreWorld (StoreState D)) → IsOpen w.store → closed (machine next).opens (on_machine opened tried w) ≡ on_machine opened tried w
+  closed-already next opened tried w open_is =
+      subst (λ found. closed (machine next).opens (over_found found) ≡ over_found found) (sym open_is.1) refl
     where
-      over : Option (List (List ℕ)) → World (OnDisk (List (Object Cell)))
-      over found = record { definitions = w.definitions; shared = option_map (store_disk made told) (option_map (λ (names : List (List ℕ)). w.store) found); names = w.names; sessions = w.sessions }
+      over_found : Option (List (List ℕ)) → ObjectsWorld
+      over_found found = record { definitions = w.definitions; open_lines = []; shared = option_map (store_disk opened tried) (option_map (λ (names : List (List ℕ)). w.store) found); names = w.names; sessions = w.sessions }
 
-  closed-now : (told : List Outcome) (made : List Attempt) (old middle : StoreWorld (StoreState D)) → Opens faults clock crash old middle → IsMade made old.store → closed (by_objects told) (on_machine made told old) ≡ on_machine (made ++ defining old.definitions done ∷ []) told middle
-  closed-now told made old middle opens made_is =
-      ap (λ found. closed (by_objects told) (over_store old.store made found)) opens.unopened
-      ∙ ap₂ (λ (objects : List (Object Cell)) (those : List Attempt). let w : World (OnDisk (List (Object Cell))) = record { definitions = old.definitions; shared = Some (record { state = objects; coming = told; attempts = those ++ defining old.definitions done ∷ [] }); names = old.names; sessions = old.sessions } in w) (sym opens.objects) (sym (made_is opens.unopened))
-      ∙ ap (over_store middle.store (made ++ defining old.definitions done ∷ [])) (sym opens.names)
-      ∙ ap (on_machine (made ++ defining old.definitions done ∷ []) told) (sym opens.rest)
+  -- the record of these definitions
+  abbrev written_definitions : List (List ℕ) → Decoded
+  written_definitions names = Definitions names
+
+  closed-now : (next : ℕ → Outcome) (opened : Option Decoded) (tried : List (Attempt Decoded)) (old middle : StoreWorld (StoreState D)) → Opens faults clock crash old middle → IsMade opened tried old.store → closed (machine next).opens (on_machine opened tried old) ≡ on_machine (Some (written_definitions old.definitions)) tried middle
+  closed-now next opened tried old middle opens made =
+      ap (λ found. closed (machine next).opens (over_found old.store opened tried found)) opens.unopened
+      ∙ ap₂ (λ (objects : List (Object Cell)) (those : List (Attempt Decoded)). let w : ObjectsWorld = record { definitions = old.definitions; open_lines = []; shared = Some (record { state = objects; opened = Some (written_definitions old.definitions); tried = those }); names = old.names; sessions = old.sessions } in w) (sym opens.objects) (sym (made opens.unopened).1)
+      ∙ ap (over_found middle.store (Some (written_definitions old.definitions)) tried) (sym opens.names)
+      ∙ ap (on_machine (Some (written_definitions old.definitions)) tried) (sym opens.rest)
     where
-      over_store : StoreState D → List Attempt → Option (List (List ℕ)) → World (OnDisk (List (Object Cell)))
-      over_store store those found = record { definitions = old.definitions; shared = option_map (store_disk those told) (option_map (λ (names : List (List ℕ)). store) found); names = old.names; sessions = old.sessions }
+      over_found : StoreState D → Option Decoded → List (Attempt Decoded) → Option (List (List ℕ)) → ObjectsWorld
+      over_found store opened those found = record { definitions = old.definitions; open_lines = []; shared = option_map (store_disk opened those) (option_map (λ (names : List (List ℕ)). store) found); names = old.names; sessions = old.sessions }
 
   opens-sound : (old middle : StoreWorld (StoreState D)) → Opens faults clock crash old middle → IsSound old → IsSound middle
   opens-sound old middle opens sound = record {
-    paired = subst (λ (w : StoreWorld (StoreState D)). length w.sessions ≡ length w.names) (sym opens.rest) sound.paired;
+    paired = subst (λ (w : StoreWorld (StoreState D)). length w.sessions ≡ min (length w.names) 64) (sym opens.rest) sound.paired;
     defined = λ none. absurd (none-some old.definitions (sym none ∙ opens.names));
     unnamed = λ none. absurd (none-some old.definitions (sym none ∙ opens.names));
     no_sessions = λ none. absurd (none-some old.definitions (sym none ∙ opens.names));
   }
 
-  named-already : (name : List ℕ) (command : Option Command) (response : Response) (w new : StoreWorld (StoreState D)) → IsOpen w.store → Answers faults clock crash (session_means name command) (Some response) w new → Answers faults clock crash (named_means name command) (Some response) w new
-  named-already name command response w new open_is it = record {
-    told = it.told;
-    more = it.more;
-    moves = it.moves;
-    means_so = λ made made_is. ap (λ those. session_answered (by_objects it.told) those name command) (closed-already it.told made w open_is) ∙ it.means_so made made_is;
-    all_made = it.all_made;
-    keeps_sound = it.keeps_sound;
+  -- all attempts, where there was none before the definitions were written
+  behind-opened : (r : Decoded) (opened : Option Decoded) (tried more : List (Attempt Decoded)) → opened ≡ None → tried ≡ [] → all_attempts (Some r) (tried ++ more) ≡ all_attempts opened tried ++ all_attempts (Some r) more
+  behind-opened r opened tried more none empty =
+      ap (λ those. all_attempts (Some r) (those ++ more)) empty ∙ sym (ap₂ (λ (those : Option Decoded) (made : List (Attempt Decoded)). all_attempts those made ++ all_attempts (Some r) more) none empty)
+
+  -- the definitions are written, and then nothing is answered
+  pub opens_answer : (means : Means) (old middle : StoreWorld (StoreState D)) → Opens faults clock crash old middle → ((next : ℕ → Outcome) (opened : Option Decoded) (tried : List (Attempt Decoded)) → means next (on_machine opened tried old) ≡ silent (closed (machine next).opens (on_machine opened tried old))) → Responds faults clock crash means None old middle
+  opens_answer means old middle opens is = record {
+    opening = Some (written_definitions old.definitions);
+    told = [];
+    more = [];
+    as_many = refl;
+    moves = opens.moves;
+    means_so = λ next opened tried made tells.
+        is next opened tried ∙ ap silent (closed-now next opened tried old middle opens made) ∙ ap (λ those. silent (on_machine (Some (written_definitions old.definitions)) those middle)) (sym (append-nil tried));
+    all_made = λ opened tried made none. absurd (none-some old.definitions (sym none ∙ opens.names));
+    behind = λ opened tried made. behind-opened (written_definitions old.definitions) opened tried [] (made opens.unopened).0 (made opens.unopened).1;
+    keeps_sound = opens-sound old middle opens;
   }
 
-  named-now : (name : List ℕ) (command : Option Command) (response : Response) (old middle new : StoreWorld (StoreState D)) → Opens faults clock crash old middle → Answers faults clock crash (session_means name command) (Some response) middle new → Answers faults clock crash (named_means name command) (Some response) old new
+  named-already : (name : List ℕ) (command : Option Command) (response : Response) (w new : StoreWorld (StoreState D)) → IsOpen w.store → Answers faults clock crash (session_means name command) (Some response) w new → Responds faults clock crash (named_means name command) (Some response) w new
+  named-already name command response w new open_is it = responds (named_means name command) (Some response) w new (record {
+    told = it.told;
+    more = it.more;
+    as_many = it.as_many;
+    moves = it.moves;
+    means_so = λ next opened tried made tells. ap (session_means name command next) (closed-already next opened tried w open_is) ∙ it.means_so next opened tried made tells;
+    all_made = it.all_made;
+    keeps_sound = it.keeps_sound;
+  })
+
+  named-now : (name : List ℕ) (command : Option Command) (response : Response) (old middle new : StoreWorld (StoreState D)) → Opens faults clock crash old middle → Answers faults clock crash (session_means name command) (Some response) middle new → Responds faults clock crash (named_means name command) (Some response) old new
   named-now name command response old middle new opens it =
-      let first : List Attempt = defining old.definitions done ∷ [] in
-      let was_made : (made : List Attempt) → IsMade (made ++ first) middle.store = λ made none. absurd (none-some old.definitions (sym none ∙ opens.names)) in
+      let first : Decoded = written_definitions old.definitions in
+      let was_made : (tried : List (Attempt Decoded)) → IsMade (Some first) tried middle.store = λ tried none. absurd (none-some old.definitions (sym none ∙ opens.names)) in
       record {
+        opening = Some first;
         told = it.told;
-        more = first ++ it.more;
-        moves = moves-then faults clock crash [] it.told first it.more old.store middle.store new.store opens.moves it.moves;
-        means_so = λ made made_is.
-            ap (λ those. session_answered (by_objects it.told) those name command) (closed-now it.told made old middle opens made_is)
-            ∙ it.means_so (made ++ first) (was_made made)
-            ∙ ap (λ those. answered_by (Some response) (on_machine those [] new)) (append_assoc made first it.more);
-        all_made = λ made made_is none. sym (append_assoc made first it.more) ∙ it.all_made (made ++ first) (was_made made) none;
+        more = it.more;
+        as_many = it.as_many;
+        moves = moves-then faults clock crash [] it.told (defining old.definitions done ∷ []) it.more old.store middle.store new.store opens.moves it.moves;
+        means_so = λ next opened tried made tells. ap (session_means name command next) (closed-now next opened tried old middle opens made) ∙ it.means_so next (Some first) tried (was_made tried) tells;
+        all_made = λ opened tried made none. it.all_made (Some first) tried (was_made tried) none;
+        behind = λ opened tried made. behind-opened first opened tried it.more (made opens.unopened).0 (made opens.unopened).1;
         keeps_sound = λ sound. it.keeps_sound (opens-sound old middle opens sound);
       }
 
   -- the definitions are closed, and then the line is answered
-  pub named_answers : (name : List ℕ) (command : Option Command) (response : Response) (old middle new : StoreWorld (StoreState D)) → ((middle ≡ old) × IsOpen old.store) ⊎ Opens faults clock crash old middle → Answers faults clock crash (session_means name command) (Some response) middle new → Answers faults clock crash (named_means name command) (Some response) old new
+  pub named_answers : (name : List ℕ) (command : Option Command) (response : Response) (old middle new : StoreWorld (StoreState D)) → ((middle ≡ old) × IsOpen old.store) ⊎ Opens faults clock crash old middle → Answers faults clock crash (session_means name command) (Some response) middle new → Responds faults clock crash (named_means name command) (Some response) old new
   named_answers name command response old middle new closes it =
       ⊎_elim (λ already. named-already name command response old new already.1 (subst (λ w. Answers faults clock crash (session_means name command) (Some response) w new) already.0 it)) (λ opens. named-now name command response old middle new opens it) closes
 
@@ -251,29 +355,39 @@ module _ {D : Type 0} (faults clock : D → ℕ) (crash : D → ℕ → List ℕ
     told = takes.told;
     more = first ++ takes.more;
     moves = moves-then faults clock crash [] takes.told first takes.more old.store middle.store new.store opens.moves takes.moves;
-    made_so = λ made made_is.
-        attempts_as takes.told (closed-now takes.told made old middle opens made_is)
-        ∙ takes.made_so (made ++ first) (λ none. absurd (none-some old.definitions (sym none ∙ opens.names))) ∙ append_assoc made first takes.more;
+    made_so = λ next opened tried made tells.
+        attempts_as next (closed-now next opened tried old middle opens made)
+        ∙ takes.made_so next (Some (written_definitions old.definitions)) tried (λ none. absurd (none-some old.definitions (sym none ∙ opens.names))) tells
+        ∙ ap (λ those. those ++ takes.more) (opened_first opened tried made) ∙ append_assoc (all_attempts opened tried) first takes.more;
   }) wants
     where
-      first : List Attempt
+      first : List (Attempt Decoded)
       first = defining old.definitions done ∷ []
 
-      attempts_as : {one other : World (OnDisk (List (Object Cell)))} (told : List Outcome) → one ≡ other → attempts_of (session_answered (by_objects told) one name command).world.shared ≡ attempts_of (session_answered (by_objects told) other name command).world.shared
-      attempts_as told same = ap (λ those. attempts_of (session_answered (by_objects told) those name command).world.shared) same
+      opened_first : (opened : Option Decoded) (tried : List (Attempt Decoded)) → IsMade opened tried old.store → all_attempts (Some (written_definitions old.definitions)) tried ≡ all_attempts opened tried ++ first
+      opened_first opened tried made =
+          ap (all_attempts (Some (written_definitions old.definitions))) (made opens.unopened).1
+          ∙ sym (ap₂ (λ (those : Option Decoded) (tried : List (Attempt Decoded)). all_attempts those tried ++ first) (made opens.unopened).0 (made opens.unopened).1)
 
-      opened_world : (made : List Attempt) → on_machine (made ++ first) [] middle ≡ just_opened old.definitions (store_disk (made ++ first) [] middle.store)
-      opened_world made =
-          ap (on_machine (made ++ first) []) opens.rest
-          ∙ ap (λ found. let w : World (OnDisk (List (Object Cell))) = record { definitions = old.definitions; shared = option_map (store_disk (made ++ first) []) (option_map (λ (names : List (List ℕ)). middle.store) found); names = old.names; sessions = old.sessions } in w) opens.names
-          ∙ ap₂ (λ (names : List (List ℕ)) (sessions : List Session). let w : World (OnDisk (List (Object Cell))) = record { definitions = old.definitions; shared = Some (store_disk (made ++ first) [] middle.store); names = names; sessions = sessions } in w) (sound.unnamed opens.unopened) (sound.no_sessions opens.unopened)
+      attempts_as : {one other : ObjectsWorld} (next : ℕ → Outcome) → one ≡ other → attempts_of (session_means name command next one).world.shared ≡ attempts_of (session_means name command next other).world.shared
+      attempts_as next same = ap (λ those. attempts_of (session_means name command next those).world.shared) same
+
+      opened_world : (tried : List (Attempt Decoded)) → on_machine (Some (written_definitions old.definitions)) tried middle ≡ just_opened old.definitions (store_disk (Some (written_definitions old.definitions)) tried middle.store)
+      opened_world tried =
+          let disk : StoreState D → ObjectsDisk = store_disk (Some (written_definitions old.definitions)) tried in
+          ap (on_machine (Some (written_definitions old.definitions)) tried) opens.rest
+          ∙ ap (λ found. let w : ObjectsWorld = record { definitions = old.definitions; open_lines = []; shared = option_map disk (option_map (λ (names : List (List ℕ)). middle.store) found); names = old.names; sessions = old.sessions } in w) opens.names
+          ∙ ap₂ (λ (names : List (List ℕ)) (sessions : List Session). let w : ObjectsWorld = record { definitions = old.definitions; open_lines = []; shared = Some (disk middle.store); names = names; sessions = sessions } in w) (sound.unnamed opens.unopened) (sound.no_sessions opens.unopened)
 
       still : new.store ≡ middle.store → Takes faults clock crash (named_means name command) old new
       still same = record {
         told = [];
         more = first;
         moves = subst (λ store. Moves faults clock crash [] first old.store store) (sym same) opens.moves;
-        made_so = λ made made_is. attempts_as [] (closed-now [] made old middle opens made_is ∙ opened_world made) ∙ first-line [] old.definitions (store_disk (made ++ first) [] middle.store) name command;
+        made_so = λ next opened tried made tells.
+            attempts_as next (closed-now next opened tried old middle opens made ∙ opened_world tried)
+            ∙ first-line next old.definitions (store_disk (Some (written_definitions old.definitions)) tried middle.store) name command
+            ∙ opened_first opened tried made;
       }
 
   pub named_wants : (name : List ℕ) (command : Option Command) (old middle new : StoreWorld (StoreState D)) → IsSound old → ((middle ≡ old) × IsOpen old.store) ⊎ Opens faults clock crash old middle → Wants faults clock crash (session_means name command) middle new → Wants faults clock crash (named_means name command) old new
@@ -286,46 +400,90 @@ module _ {D : Type 0} (faults clock : D → ℕ) (crash : D → ℕ → List ℕ
             told = takes.told;
             more = takes.more;
             moves = takes.moves;
-            made_so = λ made made_is. ap (λ those. attempts_of (session_answered (by_objects takes.told) those name command).world.shared) (closed-already takes.told made old it.1) ∙ takes.made_so made made_is;
+            made_so = λ next opened tried made tells. ap (λ those. attempts_of (session_means name command next those).world.shared) (closed-already next opened tried old it.1) ∙ takes.made_so next opened tried made tells;
           })) here
 
   pub closes_open : (old middle : StoreWorld (StoreState D)) → ((middle ≡ old) × IsOpen old.store) ⊎ Opens faults clock crash old middle → IsOpen middle.store
   closes_open old middle closes =
       ⊎_elim (λ already. subst (λ (w : StoreWorld (StoreState D)). IsOpen w.store) (sym already.0) already.1) (λ opens. let it : IsOpen middle.store = (old.definitions, opens.names) in it) closes
 
-  pub closes_paired : (old middle : StoreWorld (StoreState D)) → ((middle ≡ old) × IsOpen old.store) ⊎ Opens faults clock crash old middle → length old.sessions ≡ length old.names → length middle.sessions ≡ length middle.names
+  pub closes_paired : (old middle : StoreWorld (StoreState D)) → ((middle ≡ old) × IsOpen old.store) ⊎ Opens faults clock crash old middle → length old.sessions ≡ min (length old.names) 64 → length middle.sessions ≡ min (length middle.names) 64
   closes_paired old middle closes paired =
-      let P : StoreWorld (StoreState D) → Type 0 = λ w. length w.sessions ≡ length w.names in
+      let P : StoreWorld (StoreState D) → Type 0 = λ w. length w.sessions ≡ min (length w.names) 64 in
       ⊎_elim (λ already. subst P (sym already.0) paired) (λ opens. subst P (sym opens.rest) paired) closes
 
-  pub stops_closing : (means : List Outcome → World (OnDisk (List (Object Cell))) → Answered (OnDisk (List (Object Cell)))) (stop : Stop) (old new : StoreWorld (StoreState D)) → ClosesSo faults clock crash (Err stop) old new → StopsSo faults clock crash means stop old new
+  pub stops_closing : (means : Means) (stop : Stop) (old new : StoreWorld (StoreState D)) → ClosesSo faults clock crash (Err stop) old new → StopsSo faults clock crash means stop old new
   stops_closing means DiskFault old new fails = fails
   stops_closing means NoMemory old new same = inl (ap (λ (w : StoreWorld (StoreState D)). w.store) same)
   stops_closing means SinkFault old new none = none
 
-  -- what holds of the form of a line
-  pub form_as : (form other : Line) (result : Result (Option Response) Stop) (old new : StoreWorld (StoreState D)) → form ≡ other → RespondsSo faults clock crash (form_means other) result old new → RespondsSo faults clock crash (form_means form) result old new
-  form_as form other result old new same it = subst (λ those. RespondsSo faults clock crash (form_means those) result old new) (sym same) it
+  -- ---- the end of the script
 
-  pub blank_answers : (w : StoreWorld (StoreState D)) → Answers faults clock crash (form_means line.Blank) None w w
-  blank_answers w = answers_still (form_means line.Blank) None w (λ made. refl)
+  -- no block is open, and the definitions are closed or none
+  pub block_responds : (w : StoreWorld (StoreState D)) → Responds faults clock crash (event_means block_ends) None w w
+  block_responds w = responds (event_means block_ends) None w w (answers_still (event_means block_ends) None w (λ next opened tried. refl))
 
-  pub malformed_answers : (response : Response) (w : StoreWorld (StoreState D)) → response ≡ refused_response no_session → Answers faults clock crash (form_means line.Malformed) (Some response) w w
-  malformed_answers response w is =
-      subst (λ it. Answers faults clock crash (form_means line.Malformed) (Some it) w w) (sym is) (answers_still (form_means line.Malformed) (Some (refused_response no_session)) w (λ made. refl))
+  pub ended_still : (w : StoreWorld (StoreState D)) → IsOpen w.store ⊎ (w.definitions ≡ []) → Responds faults clock crash (event_means script_ends) None w w
+  ended_still w why = responds (event_means script_ends) None w w (answers_still (event_means script_ends) None w (λ next opened tried. ap silent (same next opened tried)))
+    where
+      ended : (ℕ → Outcome) → Option Decoded → List (Attempt Decoded) → List (List ℕ) → ObjectsWorld
+      ended next opened tried d = if is_any d then closed (machine next).opens (on_machine opened tried w) else on_machine opened tried w
+
+      either : (next : ℕ → Outcome) (opened : Option Decoded) (tried : List (Attempt Decoded)) (any : Bool) → closed (machine next).opens (on_machine opened tried w) ≡ on_machine opened tried w → (if any then closed (machine next).opens (on_machine opened tried w) else on_machine opened tried w) ≡ on_machine opened tried w
+      either next opened tried true is = is
+      either next opened tried false is = refl
+
+      same : (next : ℕ → Outcome) (opened : Option Decoded) (tried : List (Attempt Decoded)) → ended next opened tried w.definitions ≡ on_machine opened tried w
+      same next opened tried =
+          ⊎_elim (λ open_is. either next opened tried (is_any w.definitions) (closed-already next opened tried w open_is)) (λ none. ap (ended next opened tried) none) why
+
+  pub ended_opens : (old new : StoreWorld (StoreState D)) → Opens faults clock crash old new → old.definitions ≢ [] → Responds faults clock crash (event_means script_ends) None old new
+  ended_opens old new opens some =
+      opens_answer (event_means script_ends) old new opens (λ next opened tried. ap (λ (any : Bool). let w : ObjectsWorld = on_machine opened tried old in silent (if any then closed (machine next).opens w else w)) (any_defined old.definitions some))
+    where
+      any_defined : (d : List (List ℕ)) → d ≢ [] → is_any d ≡ true
+      any_defined [] some = absurd (some refl)
+      any_defined (name ∷ d) some = refl
+
+  -- ---- what holds of the form of a line
+
+  pub form_as : (text : List ℕ) (form other : Line) (result : Result (Option Response) Stop) (old new : StoreWorld (StoreState D)) → form ≡ other → RespondsSo faults clock crash (form_means text other) result old new → RespondsSo faults clock crash (form_means text form) result old new
+  form_as text form other result old new same it = subst (λ those. RespondsSo faults clock crash (form_means text those) result old new) (sym same) it
+
+  pub blank_answers : (text : List ℕ) (w : StoreWorld (StoreState D)) → Responds faults clock crash (form_means text line.Blank) None w w
+  blank_answers text w =
+      responds (form_means text line.Blank) None w w (answers_still (form_means text line.Blank) None w (λ next opened tried. refl))
+
+  pub malformed_answers : (text : List ℕ) (response : Response) (w : StoreWorld (StoreState D)) → response ≡ refused_response no_session → Responds faults clock crash (form_means text line.Malformed) (Some response) w w
+  malformed_answers text response w is =
+      subst (λ it. Responds faults clock crash (form_means text line.Malformed) (Some it) w w) (sym is) (responds (form_means text line.Malformed) (Some (refused_response no_session)) w w (answers_still (form_means text line.Malformed) (Some (refused_response no_session)) w (λ next opened tried. refl)))
 
   -- ---- a definition
 
-  defined-is : (told : List Outcome) (made : List Attempt) (w : StoreWorld (StoreState D)) (name : List ℕ) (can : Bool) → can_join w name ≡ can → defined (on_machine made told w) name ≡ (if can then silent (on_machine made told (record w { definitions = w.definitions ++ name ∷ [] })) else refused_as_no_form no_session (on_machine made told w))
-  defined-is told made w name can is =
-      let this : World (OnDisk (List (Object Cell))) = on_machine made told w in
-      let longer : World (OnDisk (List (Object Cell))) = record this { definitions = w.definitions ++ name ∷ [] } in
-      ap (λ test. if test && nat_lt (length w.definitions) 4096 && is_none (place_of w.definitions name) then silent longer else refused_as_no_form no_session this) (none-mapped (names_of w.store.records))
-      ∙ ap (λ test. if test then silent longer else refused_as_no_form no_session this) is
+  -- what a definition line is answered, whether the store has definitions or not
+  defined-is : (opened : Option Decoded) (tried : List (Attempt Decoded)) (w : StoreWorld (StoreState D)) (text name : List ℕ) → line_form text ≡ line.Definition name → (can : Bool) → can_join w name ≡ can → defined (on_machine opened tried w) (text ∷ []) ≡ (if can then silent (on_machine opened tried (record w { definitions = w.definitions ++ name ∷ [] })) else refused_so no_session no_form (on_machine opened tried w))
+  defined-is opened tried w text name form can is = by_found (names_of w.store.records) is
     where
-      none-mapped : (found : Option (List (List ℕ))) → is_none (option_map (store_disk made told) (option_map (λ (names : List (List ℕ)). w.store) found)) ≡ is_none found
-      none-mapped None = refl
-      none-mapped (Some names) = refl
+      over_found : Option (List (List ℕ)) → List (List ℕ) → ObjectsWorld
+      over_found found d = record { definitions = d; open_lines = []; shared = option_map (store_disk opened tried) (option_map (λ (names : List (List ℕ)). w.store) found); names = w.names; sessions = w.sessions }
+
+      longer : List (List ℕ)
+      longer = w.definitions ++ name ∷ []
+
+      by_can : (test can : Bool) → test ≡ can → defined_so (over_found None w.definitions) (if test then Ok longer else Err no_form) ≡ (if can then silent (over_found None longer) else refused_so no_session no_form (over_found None w.definitions))
+      by_can true true same = refl
+      by_can false false same = refl
+      by_can true false same = absurd (true≢false same)
+      by_can false true same = absurd (true≢false (sym same))
+
+      by_found : (found : Option (List (List ℕ))) → (is_none found && nat_lt (length w.definitions) 4096 && is_none (place_of w.definitions name)) ≡ can → defined (over_found found w.definitions) (text ∷ []) ≡ (if can then silent (over_found found longer) else refused_so no_session no_form (over_found found w.definitions))
+      by_found None same =
+          ap (λ l. defined_so (over_found None w.definitions) (defined_by w.definitions l)) form ∙ by_can (can_define w.definitions name) can same
+      by_found (Some names) same = by_none can same
+        where
+          by_none : (can : Bool) → false ≡ can → refused_so no_session no_form (over_found (Some names) w.definitions) ≡ (if can then silent (over_found (Some names) longer) else refused_so no_session no_form (over_found (Some names) w.definitions))
+          by_none false same = refl
+          by_none true same = absurd (true≢false (sym same))
 
   joined-sound : (w : StoreWorld (StoreState D)) (name : List ℕ) → is_name name ≡ true → can_join w name ≡ true → IsSound w → IsSound (record w { definitions = w.definitions ++ name ∷ [] })
   joined-sound w name named can sound =
@@ -338,22 +496,24 @@ module _ {D : Type 0} (faults clock : D → ℕ) (crash : D → ℕ → List ℕ
         no_sessions = sound.no_sessions;
       }
 
-  pub joins_answers : (name : List ℕ) (response : Option Response) (old new : StoreWorld (StoreState D)) → is_name name ≡ true → JoinsSo name response old new → Answers faults clock crash (form_means (line.Definition name)) response old new
-  joins_answers name None old new named joins =
+  pub joins_answers : (text name : List ℕ) (response : Option Response) (old new : StoreWorld (StoreState D)) → line_form text ≡ line.Definition name → is_name name ≡ true → JoinsSo name response old new → Responds faults clock crash (form_means text (line.Definition name)) response old new
+  joins_answers text name None old new form named joins =
       let longer : StoreWorld (StoreState D) = record old { definitions = old.definitions ++ name ∷ [] } in
-      let it : Answers faults clock crash (form_means (line.Definition name)) None old longer = record {
+      let means : Means = form_means text (line.Definition name) in
+      let it : Answers faults clock crash means None old longer = record {
         told = [];
         more = [];
+        as_many = refl;
         moves = moves-nothing faults clock crash old.store;
-        means_so = λ made made_is. defined-is [] made old name true joins.0 ∙ ap (λ those. silent (on_machine those [] longer)) (sym (append-nil made));
-        all_made = λ made made_is none. append-nil made ∙ made_is none;
+        means_so = λ next opened tried made tells. defined-is opened tried old text name form true joins.0 ∙ ap (λ those. silent (on_machine opened those longer)) (sym (append-nil tried));
+        all_made = λ opened tried made none. ((made none).0, append-nil tried ∙ (made none).1);
         keeps_sound = joined-sound old name named joins.0;
       } in
-      subst (λ w. Answers faults clock crash (form_means (line.Definition name)) None old w) (sym joins.1) it
-  joins_answers name (Some response) old new named joins =
-      subst (λ w. Answers faults clock crash (form_means (line.Definition name)) (Some response) old w) (sym joins.2)
-      (subst (λ it. Answers faults clock crash (form_means (line.Definition name)) (Some it) old old) (sym joins.1)
-      (answers_still (form_means (line.Definition name)) (Some (refused_response no_session)) old (λ made. defined-is [] made old name false joins.0)))
+      subst (λ w. Responds faults clock crash (form_means text (line.Definition name)) None old w) (sym joins.1) (responds means None old longer it)
+  joins_answers text name (Some response) old new form named joins =
+      subst (λ w. Responds faults clock crash (form_means text (line.Definition name)) (Some response) old w) (sym joins.2)
+      (subst (λ it. Responds faults clock crash (form_means text (line.Definition name)) (Some it) old old) (sym joins.1)
+      (responds (form_means text (line.Definition name)) (Some (refused_response no_session)) old old (answers_still (form_means text (line.Definition name)) (Some (refused_response no_session)) old (λ next opened tried. defined-is opened tried old text name form false joins.0))))
 
 -- ---- the form of a line
 

@@ -12,7 +12,7 @@ use Rattle.aw_journal.specs.Passed.{Passed}
 use Rattle.aw_store.specs.Images.{HoldsRecords, LeftRecords}
 use Rattle.aw_store.specs.Replay.{can_replay, names_of}
 use Rattle.aw_store.specs.Stores.{StoreState, Writes, Doubts}
-use Rattle.script_world.proofs.Acting.{fares_done, fares_faulted}
+use Rattle.script_meaning.proofs.Acting.{fares_done, fares_faulted}
 use Rattle.script_play.specs.declared.world.StoreWorld.{StoreWorld}
 use Rattle.script_play.specs.Turning.{Opens, FailsToOpen}
 use Rattle.script_play.proofs.Turning.{few-none, later-passed}
@@ -32,7 +32,6 @@ module _ {D : Type 0} (faults clock : D → ℕ) (crash : D → ℕ → List ℕ
     unopened = defines.0;
     moves = record {
       more_ends = clock store.disk ∷ [];
-      outcomes = refl;
       fares = λ opened_with made ends start fares. fares_done clock crash opened_with made ends start old.store store fares (Definitions old.definitions) (record { moments = moments; images = images }) defines.1;
       few = few-none (faults old.store.disk) (faults store.disk) later;
       later = later-passed faults clock crash old.store.disk store.disk _ moments later;
@@ -48,7 +47,6 @@ module _ {D : Type 0} (faults clock : D → ℕ) (crash : D → ℕ → List ℕ
     unopened = doubts.0;
     moves = record {
       more_ends = clock store.disk ∷ [];
-      outcomes = refl;
       fares = λ opened_with made ends start fares. fares_faulted clock crash opened_with made ends start old.store store fares (Definitions old.definitions) (record { moments = moments; images = images }) doubts.1;
       few = few-none (faults old.store.disk) (faults store.disk) later;
       later = later-passed faults clock crash old.store.disk store.disk _ moments later;

@@ -1,17 +1,16 @@
 -- What the calls of a store do, as parts of the answer to a line.
-use Rattle.std.specs.Prelude.{◌≡◌, ◌≢◌, ◌≤◌, ◌+◌, ◌++◌, ◌⊎◌, ℕ, Bool, true, false, cond, List, [], ◌∷◌, Some, refl}
+use Rattle.std.specs.Prelude.{◌≡◌, ◌≢◌, ◌≤◌, ◌+◌, ◌++◌, ◌⊎◌, ℕ, suc, Bool, true, false, cond, List, [], ◌∷◌, length, map, Option, Some, refl}
+use Rattle.std.specs.Option.{option_to_list}
 use Rattle.std.proofs.Common.{◌∙◌, ap, ap₂, sym, subst₂, inl, inr, ⊎_elim, arith, append_assoc, append-nil}
 use Rattle.std.proofs.lemmas.Bool.{cases_lt}
 use Rattle.std.proofs.lemmas.List.Sums.{sum_by-append}
 use Rattle.std.proofs.lemmas.Option.{none-some}
 use Rattle.aw_lists.specs.Faults.{Rose}
-use Rattle.aw_cell.specs.declared.cell.Cell.{Cell}
 use Rattle.aw_codec.specs.declared.record.Decoded.{Decoded}
 use Rattle.aw_codec.specs.declared.record.Decoded.TheVariants.{Definitions, Commit}
 use Rattle.mv_core.specs.declared.entry.Entry.{Entry}
 use Rattle.mv_core.specs.declared.entry.Reply.{Reply}
 use Rattle.mv_core.specs.declared.entry.Reply.TheVariants.{Attached, Acquired, Committed, Owned, Newer, Stranger, Worn, Fault, NoMemory}
-use Rattle.mv_core.specs.declared.object.Object.{Object}
 use Rattle.mv_core.specs.SharedStep.{writes}
 use Rattle.aw_journal.specs.Passed.{Passed}
 use Rattle.aw_store.specs.Images.{HoldsRecords, LeftRecords}
@@ -22,15 +21,17 @@ use Rattle.ses_step.specs.declared.line.Command.{Command}
 use Rattle.ses_step.specs.declared.session.Begun.TheVariants.{Said, Ask}
 use Rattle.ses_step.specs.declared.session.Session.{Session}
 use Rattle.ses_step.specs.Sessions.{begun, finished}
-use Rattle.script_world.specs.Worlds.{Turn, turn_from, replied}
-use Rattle.script_world.specs.Outcomes.{Outcome, Attempt, OnDisk, by_objects}
-use Rattle.script_world.specs.Acting.{done_where, outcomes_told, act_attempts, ends_at}
-use Rattle.script_world.specs.Faring.{StoreFares}
-use Rattle.script_world.specs.FaultLines.{has_faulted}
-use Rattle.script_world.specs.StoreTurns.{store_disk}
-use Rattle.script_world.proofs.Acting.{act_steps, act_fares}
-use Rattle.script_world.proofs.Learning.{outcomes_of-act, outcomes_of-append}
-use Rattle.script_play.specs.Turning.{FewFaults, Later, Moves, Asked, Replied, Turned, TurnTakes}
+use Rattle.script_world.specs.Faults.{has_faulted}
+use Rattle.script_world.specs.Outcomes.{Outcome, Attempt, as_done, attempts_of}
+use Rattle.script_world.specs.Running.{Tells}
+use Rattle.script_meaning.specs.Acting.{done_where, outcomes_told, attempts_ended, act_attempts, ends_at}
+use Rattle.script_meaning.specs.Faring.{StoreFares}
+use Rattle.script_meaning.specs.Language.{ObjectsDisk}
+use Rattle.script_meaning.specs.SameRecords.{SameRecords}
+use Rattle.script_meaning.specs.StoreRuns.{store_disk}
+use Rattle.script_meaning.specs.Turns.{Turn, turn_from, replied}
+use Rattle.script_meaning.proofs.Acting.{act_steps, act_fares}
+use Rattle.script_play.specs.Turning.{machine, FewFaults, Later, Moves, Asked, Replied, ReplyWants, Turned, TurnTakes, TurnWants}
 
 -- ---- faults
 
@@ -86,6 +87,10 @@ module _ {D : Type 0} (old new : StoreState D) (names : List (List ℕ)) (is : n
   act-open asked (Stranger object) acts = answered-open asked (Stranger object) acts
   act-open asked (Worn object) acts = answered-open asked (Worn object) acts
 
+length-ended : (attempted : Decoded) (outcomes : List Outcome) → length (attempts_ended attempted outcomes) ≡ length outcomes
+length-ended attempted [] = refl
+length-ended attempted (outcome ∷ outcomes) = ap suc (length-ended attempted outcomes)
+
 module _ {D : Type 0} (faults clock : D → ℕ) (crash : D → ℕ → List ℕ → Type 0) where
   -- ---- time
 
@@ -110,21 +115,19 @@ module _ {D : Type 0} (faults clock : D → ℕ) (crash : D → ℕ → List ℕ
   pub moves-nothing : (store : StoreState D) → Moves faults clock crash [] [] store store
   moves-nothing store = record {
     more_ends = [];
-    outcomes = refl;
     fares = λ opened made ends start fares.
-        let P : List Attempt → List ℕ → Type 0 = λ made ends. StoreFares clock crash opened made ends start store in
+        let P : List (Attempt Decoded) → List ℕ → Type 0 = λ made ends. StoreFares SameRecords clock crash opened made ends start store in
         subst₂ P (sym (append-nil made)) (sym (append-nil ends)) fares;
     few = few-none (faults store.disk) (faults store.disk) (omega arith);
     later = later-same store.disk;
     keeps_open = λ names is. is;
   }
 
-  pub moves-then : (told more_told : List Outcome) (made_first made_next : List Attempt) (first second third : StoreState D) → Moves faults clock crash told made_first first second → Moves faults clock crash more_told made_next second third → Moves faults clock crash (told ++ more_told) (made_first ++ made_next) first third
+  pub moves-then : (told more_told : List Outcome) (made_first made_next : List (Attempt Decoded)) (first second third : StoreState D) → Moves faults clock crash told made_first first second → Moves faults clock crash more_told made_next second third → Moves faults clock crash (told ++ more_told) (made_first ++ made_next) first third
   moves-then told more_told made_first made_next first second third one two = record {
     more_ends = one.more_ends ++ two.more_ends;
-    outcomes = outcomes_of-append made_first made_next ∙ ap₂ (λ (a b : List Outcome). a ++ b) one.outcomes two.outcomes;
     fares = λ opened made ends start fares.
-        let P : List Attempt → List ℕ → Type 0 = λ made ends. StoreFares clock crash opened made ends start third in
+        let P : List (Attempt Decoded) → List ℕ → Type 0 = λ made ends. StoreFares SameRecords clock crash opened made ends start third in
         subst₂ P (append_assoc made made_first made_next) (append_assoc ends one.more_ends two.more_ends) (two.fares opened (made ++ made_first) (ends ++ one.more_ends) start (one.fares opened made ends start fares));
     few = few-append told more_told (faults first.disk) (faults second.disk) (faults third.disk) two.later.faults_later one.few two.few;
     later = later-then first.disk second.disk third.disk one.later two.later;
@@ -137,17 +140,15 @@ module _ {D : Type 0} (faults clock : D → ℕ) (crash : D → ℕ → List ℕ
   asked_so asked reply old new wants acts moments images later cause = record {
     told = outcomes_told asked reply;
     more = act_attempts asked reply;
+    as_many = length-ended (record_of asked) (outcomes_told asked reply);
     moves = record {
       more_ends = ends_at (clock new.disk) (act_attempts asked reply);
-      outcomes = outcomes_of-act [] asked reply;
       fares = λ opened made ends start fares. act_fares clock crash opened made ends start old new fares asked reply (record { moments = moments; images = images }) acts;
       few = few-act asked reply (faults old.disk) (faults new.disk) later cause;
       later = later-passed old.disk new.disk _ moments later;
       keeps_open = λ names is. act-open old new names is asked reply acts;
     };
-    step = λ made.
-        let all = outcomes_told asked reply in
-        ap (λ coming. (by_objects all).step (store_disk made coming old) asked) (sym (append-nil all)) ∙ act_steps all [] made asked old new reply wants acts;
+    step = λ next opened tried tells. act_steps next opened tried asked old new reply wants acts tells;
   }
 
   -- ---- a command
@@ -157,33 +158,42 @@ module _ {D : Type 0} (faults clock : D → ℕ) (crash : D → ℕ → List ℕ
   said_turned definitions names command answer before after store said = record {
     told = [];
     more = [];
+    as_many = refl;
     moves = moves-nothing store;
-    turns = λ made.
-        ap (turn_from (by_objects []) definitions names (store_disk made [] store)) (sym said)
-        ∙ ap (λ those. let it : Turn (OnDisk (List (Object Cell))) = record { answer = answer; session = after; shared = store_disk those [] store } in it) (sym (append-nil made));
+    turns = λ next opened tried tells.
+        ap (turn_from (machine next) definitions names (store_disk opened tried store)) (sym said)
+        ∙ ap (λ those. let it : Turn ObjectsDisk = record { answer = answer; session = after; shared = store_disk opened those store } in it) (sym (append-nil tried));
   }
 
-  asked-turn : (definitions names : List (List ℕ)) (command : Command) (asked : Entry) (reply : Reply) (before between : Session) (old new : StoreState D) → (Ask asked, between) ≡ begun definitions before command → (asks : Asked faults clock crash asked reply old new) → (made : List Attempt) →
-      turn_from (by_objects asks.told) definitions names (store_disk made asks.told old) (begun definitions before command) ≡ record { answer = (finished definitions names between asked reply).0; session = (finished definitions names between asked reply).1; shared = store_disk (made ++ asks.more) [] new }
-  asked-turn definitions names command asked reply before between old new begins asks made =
-      ap (turn_from (by_objects asks.told) definitions names (store_disk made asks.told old)) (sym begins)
-      ∙ ap (replied (by_objects asks.told) definitions names between asked) (asks.step made)
+  asked-turn : (definitions names : List (List ℕ)) (command : Command) (asked : Entry) (reply : Reply) (before between : Session) (old new : StoreState D) → (Ask asked, between) ≡ begun definitions before command → (asks : Asked faults clock crash asked reply old new) → (next : ℕ → Outcome) (opened : Option Decoded) (tried : List (Attempt Decoded)) → Tells next (length tried) asks.told →
+      turn_from (machine next) definitions names (store_disk opened tried old) (begun definitions before command) ≡ record { answer = (finished definitions names between asked reply).0; session = (finished definitions names between asked reply).1; shared = store_disk opened (tried ++ asks.more) new }
+  asked-turn definitions names command asked reply before between old new begins asks next opened tried tells =
+      ap (turn_from (machine next) definitions names (store_disk opened tried old)) (sym begins)
+      ∙ ap (replied (machine next) definitions names between asked) (asks.step next opened tried tells)
 
   -- a command that asks the store
   pub replied_turned : (definitions names : List (List ℕ)) (command : Command) (asked : Entry) (answer : Answer) (before between after : Session) (old new : StoreState D) → (Ask asked, between) ≡ begun definitions before command → Replied faults clock crash definitions names asked answer between after old new → Turned faults clock crash definitions names command answer before after old new
   replied_turned definitions names command asked answer before between after old new begins replied = record {
     told = replied.asks.told;
     more = replied.asks.more;
+    as_many = replied.asks.as_many;
     moves = replied.asks.moves;
-    turns = λ made.
-        asked-turn definitions names command asked replied.reply before between old new begins replied.asks made
-        ∙ ap (λ those. let it : Turn (OnDisk (List (Object Cell))) = record { answer = those.0; session = those.1; shared = store_disk (made ++ replied.asks.more) [] new } in it) (sym replied.finishes);
+    turns = λ next opened tried tells.
+        asked-turn definitions names command asked replied.reply before between old new begins replied.asks next opened tried tells
+        ∙ ap (λ those. let it : Turn ObjectsDisk = record { answer = those.0; session = those.1; shared = store_disk opened (tried ++ replied.asks.more) new } in it) (sym replied.finishes);
   }
 
   pub asked_takes : (definitions names : List (List ℕ)) (command : Command) (asked : Entry) (reply : Reply) (before between : Session) (old new : StoreState D) → (Ask asked, between) ≡ begun definitions before command → Asked faults clock crash asked reply old new → TurnTakes faults clock crash definitions names command before old new
   asked_takes definitions names command asked reply before between old new begins asks = record {
     told = asks.told;
     more = asks.more;
+    as_many = asks.as_many;
     moves = asks.moves;
-    made_so = λ made. ap (λ (t : Turn (OnDisk (List (Object Cell)))). t.shared.attempts) (asked-turn definitions names command asked reply before between old new begins asks made);
+    made_so = λ next opened tried tells.
+        ap (λ (t : Turn ObjectsDisk). attempts_of (Some t.shared)) (asked-turn definitions names command asked reply before between old new begins asks next opened tried tells) ∙ sym (append_assoc (map as_done (option_to_list opened)) tried asks.more);
   }
+
+  -- for want of memory there is no answer by the reply
+  pub asked_wants : (definitions names : List (List ℕ)) (command : Command) (asked : Entry) (before between : Session) (old new : StoreState D) → (Ask asked, between) ≡ begun definitions before command → ReplyWants faults clock crash asked old new → TurnWants faults clock crash definitions names command before old new
+  asked_wants definitions names command asked before between old new begins wants =
+      ⊎_elim inl (λ replied. inr (asked_takes definitions names command asked replied.0 before between old new begins replied.1)) wants

@@ -4,12 +4,14 @@ use Rattle.std.specs.Io.KnownBytes.{IsAtEnd}
 use Rattle.aw_io.specs.Known.{Gives, Grows, GrowsByFront}
 use Rattle.aw_codec.specs.declared.record.Decoded.{Decoded}
 use Rattle.aw_store.specs.Images.{HoldsRecords}
-use Rattle.script_world.specs.Matching.{CanBeOpened}
-use Rattle.script_world.specs.AllDone.{AreDone}
-use Rattle.script_world.specs.Faring.{Rise, ended_by, HoldsLeft}
-use Rattle.script_world.specs.Outcomes.{Outcome, faulted, Attempt, by_history}
-use Rattle.script_world.specs.Script.{ended_lines, script_lines}
-use Rattle.script_world.specs.Transcript.{opening, text_of, world_at, attempts, final_attempts, transcript, has_refusal, ended_transcript}
+use Rattle.script_meaning.specs.Matching.{CanBeOpened}
+use Rattle.script_world.specs.Outcomes.{Outcome, faulted, Attempt}
+use Rattle.script_world.specs.Worlds.{Event, text_of, ended_events, script_events}
+use Rattle.script_meaning.specs.AllDone.{AreDone}
+use Rattle.script_meaning.specs.Faring.{Rise, ended_by, HoldsLeft}
+use Rattle.script_meaning.specs.Language.{by_history}
+use Rattle.script_meaning.specs.SameRecords.{SameRecords}
+use Rattle.script_meaning.specs.Transcript.{opening, world_at, attempts, transcript, has_refusal, ended_transcript}
 use Rattle.script_disk.specs.declared.opening.Unopened.{Unopened}
 use Rattle.script_disk.specs.Opened.{IsUnopened, status_of as unopened_status}
 use Rattle.script_play.specs.declared.ending.Ending.{Ending}
@@ -20,53 +22,53 @@ use Rattle.script_play.specs.Reading.{Streams}
 
 -- ---- a run whose disk was opened with records
 
--- the first of these lines
-pub record IsFront (lines all : List (List ℕ)) : Type 0 where
-  pub rest : List (List ℕ)
-  pub is : all ≡ lines ++ rest
+-- the first of these events
+pub record IsFront (events all : List Event) : Type 0 where
+  pub rest : List Event
+  pub is : all ≡ events ++ rest
 
--- a front of the lines that ended in the bytes taken, and at the script's end of all lines
-abbrev pub AreLines : Streams → List ℕ → List (List ℕ) → Type 0
-AreLines s taken lines = IsFront lines (ended_lines taken) ⊎ (IsAtEnd s.left_now × IsFront lines (script_lines taken))
+-- a front of the lines that ended in the bytes taken, and at the script's end of all its events
+abbrev pub AreEvents : Streams → List ℕ → List Event → Type 0
+AreEvents s taken events = IsFront events (ended_events taken) ⊎ (IsAtEnd s.left_now × IsFront events (script_events taken))
 
-module _ (s : Streams) (records : List Decoded) (outcomes : List Outcome) (made : List Attempt) (taken : List ℕ) where
+module _ (s : Streams) (records : List Decoded) (outcomes : List Outcome) (made : List (Attempt Decoded)) (taken : List ℕ) where
   -- the source gave all that it had, the whole transcript was written, and all of the script's attempts were made
   pub record IsWhole (refused : Bool) : Type 0 where
     pub at_end : IsAtEnd s.left_now
     pub size : length taken ≤ most_bytes
-    pub wrote : Grows s.written_before s.written_now (transcript records outcomes taken)
-    pub refuses : has_refusal records outcomes taken ≡ refused
-    pub attempted : final_attempts records outcomes (script_lines taken) ≡ made
+    pub wrote : Grows s.written_before s.written_now (transcript [] records outcomes taken)
+    pub refuses : has_refusal [] records outcomes taken ≡ refused
+    pub attempted : attempts [] records outcomes (script_events taken) ≡ made
 
-  -- some lines were taken up and made their attempts, and a front of their text was written
+  -- some events were taken up and made their attempts, and a front of their text was written
   pub record IsCut : Type 0 where
     pub size : length taken ≤ most_bytes
-    pub lines : List (List ℕ)
-    pub are : AreLines s taken lines
-    pub wrote : GrowsByFront s.written_before s.written_now (text_of (by_history outcomes) (opening records outcomes) lines)
-    pub attempted : attempts records outcomes lines ≡ made
+    pub events : List Event
+    pub are : AreEvents s taken events
+    pub wrote : GrowsByFront s.written_before s.written_now (text_of (by_history outcomes) (opening [] records) events)
+    pub attempted : attempts [] records outcomes events ≡ made
 
   -- the lines that ended in the bytes taken were answered
   pub record IsBroken : Type 0 where
     pub size : length taken ≤ most_bytes
-    pub wrote : Grows s.written_before s.written_now (ended_transcript records outcomes taken)
-    pub attempted : attempts records outcomes (ended_lines taken) ≡ made
+    pub wrote : Grows s.written_before s.written_now (ended_transcript [] records outcomes taken)
+    pub attempted : attempts [] records outcomes (ended_events taken) ≡ made
 
   -- one byte more was taken than a script may have, and the lines that ended before it were answered
   pub record IsTooLong : Type 0 where
     pub size : length taken ≡ most_bytes + 1
-    pub wrote : Grows s.written_before s.written_now (ended_transcript records outcomes (take most_bytes taken))
-    pub attempted : attempts records outcomes (ended_lines (take most_bytes taken)) ≡ made
+    pub wrote : Grows s.written_before s.written_now (ended_transcript [] records outcomes (take most_bytes taken))
+    pub attempted : attempts [] records outcomes (ended_events (take most_bytes taken)) ≡ made
 
   -- some lines were answered, which left nothing open, and the record of what they defined is the one attempt, and faulted
   pub record IsUndefined : Type 0 where
     pub size : length taken ≤ most_bytes
-    pub lines : List (List ℕ)
-    pub are : AreLines s taken lines
-    pub wrote : Grows s.written_before s.written_now (text_of (by_history outcomes) (opening records outcomes) lines)
+    pub events : List Event
+    pub are : AreEvents s taken events
+    pub wrote : Grows s.written_before s.written_now (text_of (by_history outcomes) (opening [] records) events)
     pub no_commits : outcomes ≡ []
-    pub unopened : (world_at records outcomes lines).shared ≡ None
-    pub attempted : made ≡ defining (world_at records outcomes lines).definitions faulted ∷ []
+    pub unopened : (world_at [] records outcomes events).shared ≡ None
+    pub attempted : made ≡ defining (world_at [] records outcomes events).definitions faulted ∷ []
 
   abbrev pub EndsSo : Ending → Type 0
   EndsSo Accepted = IsWhole false
@@ -100,7 +102,7 @@ module _ (s : Streams) (c : Contents) (before now : ℕ) (past since : ℕ → L
     pub taken : List ℕ
     pub gives : Gives s.left_before s.left_now taken
     pub outcomes : List Outcome
-    pub made : List Attempt
+    pub made : List (Attempt Decoded)
     pub ends_so : EndsSo s records outcomes made taken ending
     pub few : FewFaults outcomes c.faults_before c.faults_now
     pub start : ℕ
@@ -109,8 +111,8 @@ module _ (s : Streams) (c : Contents) (before now : ℕ) (past since : ℕ → L
     pub from : before ≤ start
     pub rise : Rise start ends now
     pub loading : (moment : ℕ) (image : List ℕ) → before ≤ moment → moment < start → since moment image → past before image
-    pub crash : (moment : ℕ) (image : List ℕ) → start ≤ moment → moment ≤ now → since moment image → HoldsLeft records made (ended_by moment ends) image
-    pub leaves : IfSome c.now (λ image. HoldsLeft records made (length made) image)
+    pub crash : (moment : ℕ) (image : List ℕ) → start ≤ moment → moment ≤ now → since moment image → HoldsLeft SameRecords records made (ended_by moment ends) image
+    pub leaves : IfSome c.now (λ image. HoldsLeft SameRecords records made (length made) image)
 
   -- it wasn't, the source and the content are as before, and a crash leaves what it might have left at the beginning
   pub record NotOpened (status : ℕ) : Type 0 where
@@ -132,7 +134,7 @@ module _ (s : Streams) (c : Contents) (before now : ℕ) (past since : ℕ → L
     pub opened : WasOpened status
     pub all_done : AreDone opened.outcomes
     pub status_is : (status ≡ 0) ⊎ (status ≡ 1) ⊎ (status ≡ 6) ⊎ (status ≡ 10)
-    pub whole : (status ≡ 0) ⊎ (status ≡ 1) → Grows s.written_before s.written_now (transcript opened.records [] opened.taken)
+    pub whole : (status ≡ 0) ⊎ (status ≡ 1) → Grows s.written_before s.written_now (transcript [] opened.records [] opened.taken)
 
   -- or there was no memory to open it
   abbrev pub Completes : ℕ → Type 0

@@ -1,27 +1,26 @@
 -- What a player has done with the bytes that it was fed: from records with which a disk was opened, and from the disk as it was then.
-use Rattle.std.specs.Prelude.{◌≡◌, ◌++◌, ◌⊎◌, ℕ, Bool, false, List, [], ◌∷◌, Option, None, Some, Result, Ok, Err}
+use Rattle.std.specs.Prelude.{◌≡◌, ◌++◌, ◌⊎◌, ℕ, Bool, false, List, [], ◌∷◌, map, Option, None, Some, Result, Ok, Err}
 use Rattle.aw_lists.specs.Faults.{Rose}
 use Rattle.aw_io.specs.Known.{Grows, GrowsByFront}
 use Rattle.aw_codec.specs.declared.record.Decoded.{Decoded}
-use Rattle.mv_core.specs.Integers.{integers}
-use Rattle.mv_core.specs.Workspace.{standing}
-use Rattle.aw_store.specs.Replay.{workspace_of}
+use Rattle.aw_store.specs.Replay.{names_of}
 use Rattle.aw_store.specs.Stores.{StoreState}
 use Rattle.ses_step.specs.Answers.{answer_line, is_refusal}
-use Rattle.script_world.specs.Worlds.{World, with_shared}
-use Rattle.script_world.specs.Outcomes.{Outcome, faulted, Attempt, objects_machine}
-use Rattle.script_world.specs.Script.{ended_lines, open_line, script_lines}
-use Rattle.script_world.specs.Transcript.{attempts_of, last_attempts}
-use Rattle.script_world.specs.Faring.{StoreFares}
-use Rattle.script_world.specs.Learning.{world_with, text_with}
-use Rattle.script_world.specs.StoreTurns.{store_disk}
-use Rattle.script_world.specs.Running.{HasRun}
+use Rattle.script_world.specs.Outcomes.{Outcome, faulted, Attempt, all_attempts, attempts_of}
+use Rattle.script_world.specs.Script.{open_line, script_lines}
+use Rattle.script_world.specs.Worlds.{Event, line, text_of, ended_events, script_events}
+use Rattle.script_meaning.specs.Alike.{objects_at}
+use Rattle.script_meaning.specs.Faring.{StoreFares}
+use Rattle.script_meaning.specs.Language.{by_objects}
+use Rattle.script_meaning.specs.SameRecords.{SameRecords}
+use Rattle.script_meaning.specs.StoreRuns.{StoreRun}
+use Rattle.script_meaning.specs.Transcript.{opening_objects}
 use Rattle.script_play.specs.declared.world.StoreWorld.{StoreWorld}
 use Rattle.script_play.specs.declared.stop.Stop.{Stop}
 use Rattle.script_play.specs.declared.stop.Stop.TheVariants.{SinkFault, DiskFault, NoMemory}
 use Rattle.script_play.specs.declared.response.Response.{Response}
 use Rattle.script_play.specs.StoreWorlds.{world_of, IsMade}
-use Rattle.script_play.specs.Turning.{FewFaults, defining, Later, line_means, Answers, Wants, FailsToOpen}
+use Rattle.script_play.specs.Turning.{FewFaults, defining, Later, line_means, Responds, Wants, FailsToOpen}
 
 -- what is written of a response, and whether it is a refusal
 abbrev pub said_of : Option Response → List ℕ
@@ -49,76 +48,77 @@ module _ {D : Type 0} (faults clock : D → ℕ) (crash : D → ℕ → List ℕ
   -- ---- one line
 
   -- a line was answered, and the answer was written
-  pub record Responded (line : List ℕ) (refused : Bool) (old new : StoreWorld (StoreState D)) (before now : Option (List ℕ)) : Type 0 where
+  pub record Responded (text : List ℕ) (refused : Bool) (old new : StoreWorld (StoreState D)) (before now : Option (List ℕ)) : Type 0 where
     pub response : Option Response
-    pub answers : Answers faults clock crash (line_means line) response old new
+    pub answers : Responds faults clock crash (line_means text) response old new
     pub refuses : refused ≡ refuses_of response
     pub written : Grows before now (said_of response)
 
   -- a line was answered, and a front of the answer was written
-  pub record CutIn (line : List ℕ) (old new : StoreWorld (StoreState D)) (before now : Option (List ℕ)) : Type 0 where
+  pub record CutIn (text : List ℕ) (old new : StoreWorld (StoreState D)) (before now : Option (List ℕ)) : Type 0 where
     pub response : Option Response
-    pub answers : Answers faults clock crash (line_means line) response old new
+    pub answers : Responds faults clock crash (line_means text) response old new
     pub written : GrowsByFront before now (said_of response)
 
   abbrev pub RespondedSo : List ℕ → Result Bool Stop → StoreWorld (StoreState D) → StoreWorld (StoreState D) → Option (List ℕ) → Option (List ℕ) → Type 0
-  RespondedSo line (Ok refused) old new before now = Responded line refused old new before now
-  RespondedSo line (Err SinkFault) old new before now = CutIn line old new before now
-  RespondedSo line (Err NoMemory) old new before now = CutIn line old new before now ⊎ (Wants faults clock crash (line_means line) old new × (now ≡ before))
-  RespondedSo line (Err DiskFault) old new before now = FailsToOpen faults clock crash old new × (now ≡ before)
+  RespondedSo text (Ok refused) old new before now = Responded text refused old new before now
+  RespondedSo text (Err SinkFault) old new before now = CutIn text old new before now
+  RespondedSo text (Err NoMemory) old new before now = CutIn text old new before now ⊎ (Wants faults clock crash (line_means text) old new × (now ≡ before))
+  RespondedSo text (Err DiskFault) old new before now = FailsToOpen faults clock crash old new × (now ≡ before)
 
   module _ (records : List Decoded) (at : D) where
     -- ---- lines
 
     -- how a run stands with its disk: what a crash may leave since it was opened, and the faults
-    pub record Stands (coming : List Outcome) (made : List Attempt) (store : StoreState D) : Type 0 where
+    pub record Stands (coming : List Outcome) (made : List (Attempt Decoded)) (store : StoreState D) : Type 0 where
       pub ends : List ℕ
-      pub fares : StoreFares clock crash records made ends (clock at) store
+      pub fares : StoreFares SameRecords clock crash records made ends (clock at) store
       pub few : FewFaults coming (faults at) (faults store.disk)
       pub later : Later faults clock crash at store.disk
 
-    -- these lines were answered
-    pub record HasDone (lines : List (List ℕ)) (text : List ℕ) (refused : Bool) (w : StoreWorld (StoreState D)) : Type 0 where
+    -- these events were answered
+    pub record HasDone (events : List Event) (text : List ℕ) (refused : Bool) (w : StoreWorld (StoreState D)) : Type 0 where
       pub coming : List Outcome
-      pub made : List Attempt
-      pub run : HasRun records lines coming made text refused (world_of w)
-      pub stands : Stands coming made w.store
-      pub is_made : IsMade made w.store
+      pub opened : Option Decoded
+      pub tried : List (Attempt Decoded)
+      pub run : StoreRun [] records events coming opened tried text refused (world_of w)
+      pub stands : Stands coming (all_attempts opened tried) w.store
+      pub is_made : IsMade opened tried w.store
 
-    -- these lines were taken up, and made their attempts
-    pub record HasTaken (lines : List (List ℕ)) (text : List ℕ) (store : StoreState D) : Type 0 where
+    -- these events were taken up, and made their attempts
+    pub record HasTaken (events : List Event) (text : List ℕ) (store : StoreState D) : Type 0 where
       pub coming : List Outcome
-      pub made : List Attempt
-      pub attempted : attempts_of (world_with objects_machine (standing integers (workspace_of records [])) records coming lines).shared ≡ made
-      pub due : text_with objects_machine (standing integers (workspace_of records [])) records coming lines ≡ text
+      pub made : List (Attempt Decoded)
+      pub attempted : attempts_of (objects_at [] records coming events).shared ≡ made
+      pub due : text_of (by_objects coming) (opening_objects [] records) events ≡ text
       pub stands : Stands coming made store
 
     -- ---- why a run stopped
 
-    -- the first of these lines were taken up, and a front of their text was written
-    pub record WasCut (all : List (List ℕ)) (store : StoreState D) (before now : Option (List ℕ)) : Type 0 where
-      pub lines : List (List ℕ)
-      pub rest : List (List ℕ)
-      pub front : all ≡ lines ++ rest
+    -- the first of these events were taken up, and a front of their text was written
+    pub record WasCut (all : List Event) (store : StoreState D) (before now : Option (List ℕ)) : Type 0 where
+      pub events : List Event
+      pub rest : List Event
+      pub front : all ≡ events ++ rest
       pub text : List ℕ
-      pub taken : HasTaken lines text store
+      pub taken : HasTaken events text store
       pub written : GrowsByFront before now text
 
-    -- the first of these lines were answered, nothing was open then, and the disk failed while the definitions were written
-    pub record HasFailed (all : List (List ℕ)) (store : StoreState D) (before now : Option (List ℕ)) : Type 0 where
-      pub lines : List (List ℕ)
-      pub rest : List (List ℕ)
-      pub front : all ≡ lines ++ rest
+    -- the first of these events were answered, nothing was open then, and the disk failed while the definitions were written
+    pub record HasFailed (all : List Event) (store : StoreState D) (before now : Option (List ℕ)) : Type 0 where
+      pub events : List Event
+      pub rest : List Event
+      pub front : all ≡ events ++ rest
       pub text : List ℕ
       pub refused : Bool
-      pub w : World (StoreState D)
-      pub unopened : w.shared ≡ None
-      pub run : HasRun records lines [] [] text refused w
+      pub w : StoreWorld (StoreState D)
+      pub unopened : names_of w.store.records ≡ None
+      pub run : StoreRun [] records events [] None [] text refused (world_of w)
       pub stands : Stands [] (defining w.definitions faulted ∷ []) store
       pub rose : Rose (faults at) (faults store.disk)
       pub written : Grows before now text
 
-    abbrev pub HasStopped : Stop → List (List ℕ) → StoreState D → Option (List ℕ) → Option (List ℕ) → Type 0
+    abbrev pub HasStopped : Stop → List Event → StoreState D → Option (List ℕ) → Option (List ℕ) → Type 0
     HasStopped SinkFault all store before now = WasCut all store before now
     HasStopped NoMemory all store before now = WasCut all store before now
     HasStopped DiskFault all store before now = HasFailed all store before now
@@ -128,20 +128,16 @@ module _ {D : Type 0} (faults clock : D → ℕ) (crash : D → ℕ → List ℕ
     -- these bytes were fed, each line that ended in them is answered, and the answers are written
     pub record HasPlayed (taken : List ℕ) (play : Play D) (before now : Option (List ℕ)) : Type 0 where
       pub text : List ℕ
-      pub lines : HasDone (ended_lines taken) text play.refused play.world
+      pub lines : HasDone (ended_events taken) text play.refused play.world
       pub line : play.line ≡ open_line taken
       pub written : Grows before now text
 
-    -- the script ended with these lines, and what was defined is written
-    pub record HasFinished (lines : List (List ℕ)) (refused : Bool) (store : StoreState D) (before now : Option (List ℕ)) : Type 0 where
-      pub coming : List Outcome
-      pub made_before : List Attempt
-      pub made : List Attempt
+    -- all events of a script were answered
+    pub record HasFinished (events : List Event) (refused : Bool) (store : StoreState D) (before now : Option (List ℕ)) : Type 0 where
       pub text : List ℕ
-      pub w : World (StoreState D)
-      pub run : HasRun records lines coming made_before text refused w
-      pub last : last_attempts w.definitions (with_shared (store_disk made_before []) w).shared ≡ made
-      pub stands : Stands coming made store
+      pub w : StoreWorld (StoreState D)
+      pub done_so : HasDone events text refused w
+      pub store_is : store ≡ w.store
       pub written : Grows before now text
 
   -- from one play to the next these bytes were fed
@@ -150,7 +146,7 @@ module _ {D : Type 0} (faults clock : D → ℕ) (crash : D → ℕ → List ℕ
 
   -- while these bytes were fed the play stopped
   pub record StopsIn (stop : Stop) (bytes : List ℕ) (old : Play D) (old_written : Option (List ℕ)) (new : Play D) (new_written : Option (List ℕ)) : Type 0 where
-    pub stops : (records : List Decoded) (at : D) (taken : List ℕ) (before : Option (List ℕ)) → HasPlayed records at taken old before old_written → HasStopped records at stop (ended_lines (taken ++ bytes)) new.world.store before new_written
+    pub stops : (records : List Decoded) (at : D) (taken : List ℕ) (before : Option (List ℕ)) → HasPlayed records at taken old before old_written → HasStopped records at stop (ended_events (taken ++ bytes)) new.world.store before new_written
 
   abbrev pub FeedsSo : List ℕ → Result (Unit {0}) Stop → Play D → Option (List ℕ) → Play D → Option (List ℕ) → Type 0
   FeedsSo bytes (Ok nothing) old old_written new new_written = Feeds bytes old old_written new new_written
@@ -161,13 +157,13 @@ module _ {D : Type 0} (faults clock : D → ℕ) (crash : D → ℕ → List ℕ
   -- the last line was answered, if there was one
   pub record EndsLines (refused : Bool) (old : Play D) (old_written : Option (List ℕ)) (new : StoreWorld (StoreState D)) (new_written : Option (List ℕ)) : Type 0 where
     pub ends : (records : List Decoded) (at : D) (taken : List ℕ) (before : Option (List ℕ)) → HasPlayed records at taken old before old_written →
-        (text : List ℕ) × HasDone records at (script_lines taken) text refused new × Grows before new_written text
+        (text : List ℕ) × HasDone records at (map line (script_lines taken)) text refused new × Grows before new_written text
 
   pub record Finishes (refused : Bool) (old : Play D) (old_written : Option (List ℕ)) (store : StoreState D) (new_written : Option (List ℕ)) : Type 0 where
-    pub finishes : (records : List Decoded) (at : D) (taken : List ℕ) (before : Option (List ℕ)) → HasPlayed records at taken old before old_written → HasFinished records at (script_lines taken) refused store before new_written
+    pub finishes : (records : List Decoded) (at : D) (taken : List ℕ) (before : Option (List ℕ)) → HasPlayed records at taken old before old_written → HasFinished records at (script_events taken) refused store before new_written
 
   pub record StopsAtEnd (stop : Stop) (old : Play D) (old_written : Option (List ℕ)) (store : StoreState D) (new_written : Option (List ℕ)) : Type 0 where
-    pub stops : (records : List Decoded) (at : D) (taken : List ℕ) (before : Option (List ℕ)) → HasPlayed records at taken old before old_written → HasStopped records at stop (script_lines taken) store before new_written
+    pub stops : (records : List Decoded) (at : D) (taken : List ℕ) (before : Option (List ℕ)) → HasPlayed records at taken old before old_written → HasStopped records at stop (script_events taken) store before new_written
 
   abbrev pub EndsLinesSo : Result Bool Stop → Play D → Option (List ℕ) → StoreWorld (StoreState D) → Option (List ℕ) → Type 0
   EndsLinesSo (Ok refused) old old_written new new_written = EndsLines refused old old_written new new_written

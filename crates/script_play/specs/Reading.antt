@@ -4,7 +4,7 @@ use Rattle.std.specs.Io.KnownBytes.{IsAtEnd}
 use Rattle.aw_io.specs.Known.{Gives, Grows}
 use Rattle.aw_codec.specs.declared.record.Decoded.{Decoded}
 use Rattle.aw_store.specs.Stores.{StoreState}
-use Rattle.script_world.specs.Script.{ended_lines, script_lines}
+use Rattle.script_world.specs.Worlds.{ended_events, script_events}
 use Rattle.script_play.specs.declared.world.StoreWorld.{StoreWorld}
 use Rattle.script_play.specs.declared.ending.Ending.{Ending}
 use Rattle.script_play.specs.declared.ending.Ending.TheVariants.{Accepted, Refusing, SourceFault, SinkFault, DiskFault, NoMemory, TooLong}
@@ -70,7 +70,7 @@ module _ {D : Type 0} (faults clock : D → ℕ) (crash : D → ℕ → List ℕ
     pub text : List ℕ
     pub refused : Bool
     pub w : StoreWorld (StoreState D)
-    pub lines : HasDone faults clock crash records at (ended_lines taken) text refused w
+    pub lines : HasDone faults clock crash records at (ended_events taken) text refused w
     pub store_is : store ≡ w.store
     pub written : Grows s.written_before s.written_now text
 
@@ -79,7 +79,7 @@ module _ {D : Type 0} (faults clock : D → ℕ) (crash : D → ℕ → List ℕ
     pub taken : List ℕ
     pub gives : Gives s.left_before s.left_now taken
     pub size : length taken ≤ most_bytes
-    pub stopped : HasStopped faults clock crash records at stop (ended_lines taken) store s.written_before s.written_now
+    pub stopped : HasStopped faults clock crash records at stop (ended_events taken) store s.written_before s.written_now
 
   -- a byte more came than a script may have
   pub record RanOver (s : Streams) (store : StoreState D) : Type 0 where
@@ -90,7 +90,7 @@ module _ {D : Type 0} (faults clock : D → ℕ) (crash : D → ℕ → List ℕ
     pub text : List ℕ
     pub refused : Bool
     pub w : StoreWorld (StoreState D)
-    pub lines : HasDone faults clock crash records at (ended_lines taken) text refused w
+    pub lines : HasDone faults clock crash records at (ended_events taken) text refused w
     pub store_is : store ≡ w.store
     pub written : Grows s.written_before s.written_now text
 
@@ -115,7 +115,7 @@ module _ {D : Type 0} (faults clock : D → ℕ) (crash : D → ℕ → List ℕ
     pub gives : Gives s.left_before s.left_now taken
     pub size : length taken ≤ most_bytes
     pub at_end : IsAtEnd s.left_now
-    pub finished : HasFinished faults clock crash records at (script_lines taken) refused store s.written_before s.written_now
+    pub finished : HasFinished faults clock crash records at (script_events taken) refused store s.written_before s.written_now
 
   -- a player stopped at the end of the script
   pub record CutAtEnd (stop : Stop) (s : Streams) (store : StoreState D) : Type 0 where
@@ -123,7 +123,7 @@ module _ {D : Type 0} (faults clock : D → ℕ) (crash : D → ℕ → List ℕ
     pub gives : Gives s.left_before s.left_now taken
     pub size : length taken ≤ most_bytes
     pub at_end : IsAtEnd s.left_now
-    pub stopped : HasStopped faults clock crash records at stop (script_lines taken) store s.written_before s.written_now
+    pub stopped : HasStopped faults clock crash records at stop (script_events taken) store s.written_before s.written_now
 
   abbrev pub EndsRun : Ending → Streams → StoreState D → Type 0
   EndsRun Accepted s store = EndedWhole false s store

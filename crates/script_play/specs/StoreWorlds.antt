@@ -1,18 +1,19 @@
 -- The world that the program keeps: a store stands in it from the beginning, and is the shared state once it has definitions.
-use Rattle.std.specs.Prelude.{◌≡◌, ◌&&◌, ◌++◌, ℕ, Bool, true, false, List, [], ◌∷◌, length, nat_lt, Option, None, Some, is_none, unwrap_or, if◌then◌else◌}
+use Rattle.std.specs.Prelude.{◌≡◌, ◌&&◌, ◌++◌, ℕ, min, Bool, true, false, List, [], ◌∷◌, length, nat_lt, Option, None, Some, is_none, unwrap_or, if◌then◌else◌}
 use Rattle.std.specs.Option.{option_map}
 use Rattle.aw_codec.specs.Records.{AreDefinable}
-use Rattle.aw_cell.specs.declared.cell.Cell.{Cell}
-use Rattle.mv_core.specs.declared.object.Object.{Object}
+use Rattle.aw_codec.specs.declared.record.Decoded.{Decoded}
 use Rattle.aw_store.specs.Replay.{names_of}
 use Rattle.aw_store.specs.Stores.{StoreState}
+use Rattle.ses_report.specs.Refusals.{no_form}
 use Rattle.ses_step.specs.declared.answer.Answer.TheVariants.{Refused}
-use Rattle.ses_step.specs.Answers.{no_form}
+use Rattle.ses_step.specs.Answers.{answer_of}
 use Rattle.ses_step.specs.Words.{place_of}
 use Rattle.ses_step.specs.Sessions.{new_session}
 use Rattle.script_world.specs.Worlds.{World, with_shared, Answered, silent, answered_so, no_session}
-use Rattle.script_world.specs.Outcomes.{Outcome, Attempt, OnDisk}
-use Rattle.script_world.specs.StoreTurns.{store_disk}
+use Rattle.script_world.specs.Outcomes.{Attempt}
+use Rattle.script_meaning.specs.Language.{language, ObjectsWorld}
+use Rattle.script_meaning.specs.StoreRuns.{store_disk}
 use Rattle.script_play.specs.declared.world.StoreWorld.{StoreWorld}
 use Rattle.script_play.specs.declared.response.Response.{Response}
 
@@ -20,20 +21,21 @@ use Rattle.script_play.specs.declared.response.Response.{Response}
 abbrev pub open_store : {D : Type 0} → StoreState D → Option (StoreState D)
 open_store {D} store = option_map (λ (names : List (List ℕ)). store) (names_of store.records)
 
-abbrev pub world_of : {D : Type 0} → StoreWorld (StoreState D) → World (StoreState D)
-world_of w = record { definitions = w.definitions; shared = open_store w.store; names = w.names; sessions = w.sessions }
+-- no definition is open behind a line, since each is one line
+abbrev pub world_of : {D : Type 0} → StoreWorld (StoreState D) → World language (StoreState D)
+world_of w = record { definitions = w.definitions; open_lines = []; shared = open_store w.store; names = w.names; sessions = w.sessions }
 
--- the same over the machine on a disk, in a run that made these attempts and has these outcomes to come
-abbrev pub on_machine : {D : Type 0} → List Attempt → List Outcome → StoreWorld (StoreState D) → World (OnDisk (List (Object Cell)))
-on_machine made coming w = with_shared (store_disk made coming) (world_of w)
+-- the same over the machine on a disk, in a run that wrote this record of definitions and made these attempts of commits
+abbrev pub on_machine : {D : Type 0} → Option Decoded → List (Attempt Decoded) → StoreWorld (StoreState D) → ObjectsWorld
+on_machine opened tried w = with_shared (store_disk opened tried) (world_of w)
 
 -- nothing was attempted before there were definitions
-abbrev pub IsMade : {D : Type 0} → List Attempt → StoreState D → Type 0
-IsMade made store = names_of store.records ≡ None → made ≡ []
+abbrev pub IsMade : {D : Type 0} → Option Decoded → List (Attempt Decoded) → StoreState D → Type 0
+IsMade opened tried store = names_of store.records ≡ None → (opened ≡ None) × (tried ≡ [])
 
 -- while nothing is open the definitions can be written, and no session has appeared
 pub record IsSound {D : Type 0} (w : StoreWorld (StoreState D)) : Type 0 where
-  pub paired : length w.sessions ≡ length w.names
+  pub paired : length w.sessions ≡ min (length w.names) 64
   pub defined : names_of w.store.records ≡ None → AreDefinable w.definitions
   pub unnamed : names_of w.store.records ≡ None → w.names ≡ []
   pub no_sessions : names_of w.store.records ≡ None → w.sessions ≡ []
@@ -41,9 +43,9 @@ pub record IsSound {D : Type 0} (w : StoreWorld (StoreState D)) : Type 0 where
 -- ---- responses
 
 -- what a line is answered, which may be nothing
-abbrev pub answered_by : {S : Type 0} → Option Response → World S → Answered S
+abbrev pub answered_by : {S : Type 0} → Option Response → World language S → Answered language S
 answered_by None w = silent w
-answered_by (Some response) w = answered_so response.prefix response.answer w
+answered_by (Some response) w = answered_so response.prefix (answer_of response.answer) w
 
 abbrev pub refused_response : List ℕ → Response
 refused_response prefix = record { prefix = prefix; answer = Refused no_form }
@@ -64,9 +66,9 @@ JoinsSo name (Some response) old new = (can_join old name ≡ false) × (respons
 abbrev pub own_place : {D : Type 0} → StoreWorld (StoreState D) → List ℕ → ℕ
 own_place w name = unwrap_or (place_of w.names name) (length w.names)
 
--- a name that hasn't appeared yet makes a session
+-- a name that hasn't appeared yet is kept, and makes a session where there's room
 abbrev pub placed : {D : Type 0} → StoreWorld (StoreState D) → List ℕ → StoreWorld (StoreState D)
 placed w name = record w {
   names = if nat_lt (own_place w name) (length w.names) then w.names else w.names ++ name ∷ [];
-  sessions = if nat_lt (own_place w name) (length w.names) then w.sessions else w.sessions ++ new_session (own_place w name) ∷ [];
+  sessions = if nat_lt (own_place w name) (length w.names) then w.sessions else (if nat_lt (length w.names) 64 then w.sessions ++ new_session (length w.names) ∷ [] else w.sessions);
 }

@@ -2,15 +2,13 @@
 use Rattle.std.specs.Prelude.{◌≡◌, ◌≢◌, ◌≤◌, ◌<◌, ◌+◌, ◌++◌, ◌⊎◌, ◌↔◌, ℕ, true, List, [], ◌∷◌, length, Option, None, Some, Result, Ok, Err, slice_index_or, slice_set}
 use Rattle.std.specs.List.{count_by}
 use Rattle.aw_lists.specs.Faults.{Rose}
-use Rattle.aw_cell.specs.declared.cell.Cell.{Cell}
 use Rattle.aw_cell.specs.Names.{is_name}
 use Rattle.aw_codec.specs.declared.record.Decoded.{Decoded}
 use Rattle.aw_codec.specs.declared.record.Decoded.TheVariants.{Definitions}
 use Rattle.mv_core.specs.declared.entry.Entry.{Entry}
 use Rattle.mv_core.specs.declared.entry.Reply.{Reply}
-use Rattle.mv_core.specs.declared.object.Object.{Object}
 use Rattle.mv_core.specs.Integers.{integers}
-use Rattle.mv_core.specs.Workspace.{standing, opened}
+use Rattle.mv_core.specs.Workspace.{standing, opened as just_opened}
 use Rattle.aw_store.specs.Replay.{names_of}
 use Rattle.aw_store.specs.Stores.{StoreState}
 use Rattle.ses_step.specs.declared.answer.Answer.{Answer}
@@ -19,13 +17,16 @@ use Rattle.ses_step.specs.declared.line.Line.{Line}
 use Rattle.ses_step.specs.declared.line.Line.TheVariants as line
 use Rattle.ses_step.specs.declared.session.Session.{Session}
 use Rattle.ses_step.specs.Sessions.{new_session, finished}
-use Rattle.script_world.specs.Worlds.{World, Answered, turn, closed, commanded, session_answered, line_answered, answered}
-use Rattle.script_world.specs.Outcomes.{Outcome, done, faulted, Attempt, OnDisk, by_objects}
-use Rattle.script_world.specs.Faring.{StoreFares}
-use Rattle.script_world.specs.FaultLines.{has_faulted}
-use Rattle.script_world.specs.Learning.{outcomes_of}
-use Rattle.script_world.specs.StoreTurns.{store_disk}
-use Rattle.script_world.specs.Transcript.{attempts_of}
+use Rattle.script_world.specs.Faults.{has_faulted}
+use Rattle.script_world.specs.Outcomes.{Outcome, done, faulted, Attempt, on_disk, all_attempts, attempts_of}
+use Rattle.script_world.specs.Running.{Tells}
+use Rattle.script_world.specs.Worlds as script
+use Rattle.script_world.specs.Worlds.{Machine, Event, Answered, session_place, with_session, commanded, shared_of, closed, session_planned, form_planned, settled, answered}
+use Rattle.script_meaning.specs.Faring.{StoreFares}
+use Rattle.script_meaning.specs.Language.{language, store_writing, objects_machine, form_of, ObjectsDisk, ObjectsWorld}
+use Rattle.script_meaning.specs.SameRecords.{SameRecords}
+use Rattle.script_meaning.specs.StoreRuns.{store_disk}
+use Rattle.script_meaning.specs.Turns.{turn}
 use Rattle.script_play.specs.declared.world.StoreWorld.{StoreWorld}
 use Rattle.script_play.specs.declared.stop.Stop.{Stop}
 use Rattle.script_play.specs.declared.stop.Stop.TheVariants.{SinkFault, DiskFault, NoMemory}
@@ -37,7 +38,7 @@ abbrev pub FewFaults : List Outcome → ℕ → ℕ → Type 0
 FewFaults told before now = (count_by has_faulted told + before ≤ now) ⊎ (18446744073709551615 ≤ now)
 
 -- an attempt to write these definitions
-abbrev pub defining : List (List ℕ) → Outcome → Attempt
+abbrev pub defining : List (List ℕ) → Outcome → Attempt Decoded
 defining names outcome = record { attempted = Definitions names; outcome = outcome }
 
 -- the store has definitions
@@ -53,22 +54,37 @@ DefinesName line.Malformed = Unit {0}
 
 -- ---- what a line means on the machine, by the outcomes of its commits
 
-abbrev pub command_means : ℕ → Option Command → List Outcome → World (OnDisk (List (Object Cell))) → Answered (OnDisk (List (Object Cell)))
-command_means who command told w = commanded (by_objects told) w who command
+abbrev pub machine : (ℕ → Outcome) → Machine language ObjectsDisk
+machine next = on_disk store_writing next objects_machine
+
+abbrev pub Means : Type 0
+Means = (ℕ → Outcome) → ObjectsWorld → Answered language ObjectsDisk
+
+abbrev pub command_means : ℕ → Option Command → Means
+command_means who command next w = settled (machine next) (commanded w (shared_of (machine next).opens w) who command)
 
 -- under a session's name, once the definitions are closed
-abbrev pub session_means : List ℕ → Option Command → List Outcome → World (OnDisk (List (Object Cell))) → Answered (OnDisk (List (Object Cell)))
-session_means name command told w = session_answered (by_objects told) w name command
+abbrev pub session_means : List ℕ → Option Command → Means
+session_means name command next w =
+    settled (machine next) (session_planned (machine next).opens (with_session w name) (session_place w name) command)
 
 -- the same, where they may still have to be closed
-abbrev pub named_means : List ℕ → Option Command → List Outcome → World (OnDisk (List (Object Cell))) → Answered (OnDisk (List (Object Cell)))
-named_means name command told w = session_answered (by_objects told) (closed (by_objects told) w) name command
+abbrev pub named_means : List ℕ → Option Command → Means
+named_means name command next w = session_means name command next (closed (machine next).opens w)
 
-abbrev pub form_means : Line → List Outcome → World (OnDisk (List (Object Cell))) → Answered (OnDisk (List (Object Cell)))
-form_means form told w = line_answered (by_objects told) w form
+abbrev pub form_means : List ℕ → Line → Means
+form_means text form next w = settled (machine next) (form_planned (machine next).opens w text (form_of form))
 
-abbrev pub line_means : List ℕ → List Outcome → World (OnDisk (List (Object Cell))) → Answered (OnDisk (List (Object Cell)))
-line_means line told w = answered (by_objects told) w line
+abbrev pub event_means : Event → Means
+event_means event next w = answered (machine next) w event
+
+abbrev pub line_means : List ℕ → Means
+line_means text = event_means (script.line text)
+
+-- the record of the definitions, written before or by this event
+abbrev pub joined : Option Decoded → Option Decoded → Option Decoded
+joined opened None = opened
+joined opened (Some r) = Some r
 
 module _ {D : Type 0} (faults clock : D → ℕ) (crash : D → ℕ → List ℕ → Type 0) where
   -- neither the count of faults nor the clock falls, and moments that are past keep their images
@@ -78,10 +94,9 @@ module _ {D : Type 0} (faults clock : D → ℕ) (crash : D → ℕ → List ℕ
     pub faults_later : faults old ≤ faults new
 
   -- a call told these outcomes of commits, and made these attempts, which ended at some moments
-  pub record Moves (told : List Outcome) (more : List Attempt) (old new : StoreState D) : Type 0 where
+  pub record Moves (told : List Outcome) (more : List (Attempt Decoded)) (old new : StoreState D) : Type 0 where
     pub more_ends : List ℕ
-    pub outcomes : outcomes_of more ≡ told
-    pub fares : (opened_with : List Decoded) (made : List Attempt) (ends : List ℕ) (start : ℕ) → StoreFares clock crash opened_with made ends start old → StoreFares clock crash opened_with (made ++ more) (ends ++ more_ends) start new
+    pub fares : (opened_with : List Decoded) (made : List (Attempt Decoded)) (ends : List ℕ) (start : ℕ) → StoreFares SameRecords clock crash opened_with made ends start old → StoreFares SameRecords clock crash opened_with (made ++ more) (ends ++ more_ends) start new
     pub few : FewFaults told (faults old.disk) (faults new.disk)
     pub later : Later old.disk new.disk
     pub keeps_open : (names : List (List ℕ)) → names_of old.records ≡ Some names → names_of new.records ≡ Some names
@@ -91,9 +106,10 @@ module _ {D : Type 0} (faults clock : D → ℕ) (crash : D → ℕ → List ℕ
   -- an entry, answered by a step of the machine
   pub record Asked (asked : Entry) (reply : Reply) (old new : StoreState D) : Type 0 where
     pub told : List Outcome
-    pub more : List Attempt
+    pub more : List (Attempt Decoded)
+    pub as_many : length more ≡ length told
     pub moves : Moves told more old new
-    pub step : (made : List Attempt) → (by_objects told).step (store_disk made told old) asked ≡ (reply, store_disk (made ++ more) [] new)
+    pub step : (next : ℕ → Outcome) (opened : Option Decoded) (tried : List (Attempt Decoded)) → Tells next (length tried) told → (machine next).step (store_disk opened tried old) asked ≡ (reply, store_disk opened (tried ++ more) new)
 
   -- an entry and the answer by its reply
   pub record Replied (definitions names : List (List ℕ)) (asked : Entry) (answer : Answer) (before after : Session) (old new : StoreState D) : Type 0 where
@@ -108,16 +124,18 @@ module _ {D : Type 0} (faults clock : D → ℕ) (crash : D → ℕ → List ℕ
   -- a command, answered by a turn of the machine
   pub record Turned (definitions names : List (List ℕ)) (command : Command) (answer : Answer) (before after : Session) (old new : StoreState D) : Type 0 where
     pub told : List Outcome
-    pub more : List Attempt
+    pub more : List (Attempt Decoded)
+    pub as_many : length more ≡ length told
     pub moves : Moves told more old new
-    pub turns : (made : List Attempt) → turn (by_objects told) definitions names (store_disk made told old) before command ≡ record { answer = answer; session = after; shared = store_disk (made ++ more) [] new }
+    pub turns : (next : ℕ → Outcome) (opened : Option Decoded) (tried : List (Attempt Decoded)) → Tells next (length tried) told → turn (machine next) definitions names (store_disk opened tried old) before command ≡ record { answer = answer; session = after; shared = store_disk opened (tried ++ more) new }
 
   -- a command that was taken up, and made its attempts
   pub record TurnTakes (definitions names : List (List ℕ)) (command : Command) (before : Session) (old new : StoreState D) : Type 0 where
     pub told : List Outcome
-    pub more : List Attempt
+    pub more : List (Attempt Decoded)
+    pub as_many : length more ≡ length told
     pub moves : Moves told more old new
-    pub made_so : (made : List Attempt) → (turn (by_objects told) definitions names (store_disk made told old) before command).shared.attempts ≡ made ++ more
+    pub made_so : (next : ℕ → Outcome) (opened : Option Decoded) (tried : List (Attempt Decoded)) → Tells next (length tried) told → attempts_of (Some (turn (machine next) definitions names (store_disk opened tried old) before command).shared) ≡ all_attempts opened tried ++ more
 
   abbrev pub TurnWants : List (List ℕ) → List (List ℕ) → Command → Session → StoreState D → StoreState D → Type 0
   TurnWants definitions names command before old new = (new ≡ old) ⊎ TurnTakes definitions names command before old new
@@ -130,24 +148,37 @@ module _ {D : Type 0} (faults clock : D → ℕ) (crash : D → ℕ → List ℕ
 
   -- ---- a line
 
-  -- all of a line's meaning, with its answer
-  pub record Answers (means : List Outcome → World (OnDisk (List (Object Cell))) → Answered (OnDisk (List (Object Cell)))) (response : Option Response) (old new : StoreWorld (StoreState D)) : Type 0 where
+  -- all of a line's meaning, with its answer, once the definitions are closed
+  pub record Answers (means : Means) (response : Option Response) (old new : StoreWorld (StoreState D)) : Type 0 where
     pub told : List Outcome
-    pub more : List Attempt
+    pub more : List (Attempt Decoded)
+    pub as_many : length more ≡ length told
     pub moves : Moves told more old.store new.store
-    pub means_so : (made : List Attempt) → IsMade made old.store → means told (on_machine made told old) ≡ answered_by response (on_machine (made ++ more) [] new)
-    pub all_made : (made : List Attempt) → IsMade made old.store → IsMade (made ++ more) new.store
+    pub means_so : (next : ℕ → Outcome) (opened : Option Decoded) (tried : List (Attempt Decoded)) → IsMade opened tried old.store → Tells next (length tried) told → means next (on_machine opened tried old) ≡ answered_by response (on_machine opened (tried ++ more) new)
+    pub all_made : (opened : Option Decoded) (tried : List (Attempt Decoded)) → IsMade opened tried old.store → IsMade opened (tried ++ more) new.store
+    pub keeps_sound : IsSound old → IsSound new
+
+  -- the same of any event, which may have written the record of the definitions
+  pub record Responds (means : Means) (response : Option Response) (old new : StoreWorld (StoreState D)) : Type 0 where
+    pub opening : Option Decoded
+    pub told : List Outcome
+    pub more : List (Attempt Decoded)
+    pub as_many : length more ≡ length told
+    pub moves : Moves told (all_attempts opening more) old.store new.store
+    pub means_so : (next : ℕ → Outcome) (opened : Option Decoded) (tried : List (Attempt Decoded)) → IsMade opened tried old.store → Tells next (length tried) told → means next (on_machine opened tried old) ≡ answered_by response (on_machine (joined opened opening) (tried ++ more) new)
+    pub all_made : (opened : Option Decoded) (tried : List (Attempt Decoded)) → IsMade opened tried old.store → IsMade (joined opened opening) (tried ++ more) new.store
+    pub behind : (opened : Option Decoded) (tried : List (Attempt Decoded)) → IsMade opened tried old.store → all_attempts (joined opened opening) (tried ++ more) ≡ all_attempts opened tried ++ all_attempts opening more
     pub keeps_sound : IsSound old → IsSound new
 
   -- a line that was taken up, and made its attempts
-  pub record Takes (means : List Outcome → World (OnDisk (List (Object Cell))) → Answered (OnDisk (List (Object Cell)))) (old new : StoreWorld (StoreState D)) : Type 0 where
+  pub record Takes (means : Means) (old new : StoreWorld (StoreState D)) : Type 0 where
     pub told : List Outcome
-    pub more : List Attempt
+    pub more : List (Attempt Decoded)
     pub moves : Moves told more old.store new.store
-    pub made_so : (made : List Attempt) → IsMade made old.store → attempts_of (means told (on_machine made told old)).world.shared ≡ made ++ more
+    pub made_so : (next : ℕ → Outcome) (opened : Option Decoded) (tried : List (Attempt Decoded)) → IsMade opened tried old.store → Tells next (length tried) told → attempts_of (means next (on_machine opened tried old)).world.shared ≡ all_attempts opened tried ++ more
 
   -- for want of memory a line has no answer: nothing was attempted, or it made its attempts
-  abbrev pub Wants : (List Outcome → World (OnDisk (List (Object Cell))) → Answered (OnDisk (List (Object Cell)))) → StoreWorld (StoreState D) → StoreWorld (StoreState D) → Type 0
+  abbrev pub Wants : Means → StoreWorld (StoreState D) → StoreWorld (StoreState D) → Type 0
   Wants means old new = (new.store ≡ old.store) ⊎ Takes means old new
 
   -- the definitions were written
@@ -155,7 +186,7 @@ module _ {D : Type 0} (faults clock : D → ℕ) (crash : D → ℕ → List ℕ
     pub unopened : names_of old.store.records ≡ None
     pub moves : Moves [] (defining old.definitions done ∷ []) old.store new.store
     pub names : names_of new.store.records ≡ Some old.definitions
-    pub objects : new.store.objects ≡ standing integers (opened (length old.definitions))
+    pub objects : new.store.objects ≡ standing integers (just_opened (length old.definitions))
     pub rest : new ≡ record old { store = new.store }
 
   -- the disk failed while the definitions were written
@@ -185,12 +216,12 @@ module _ {D : Type 0} (faults clock : D → ℕ) (crash : D → ℕ → List ℕ
   FinishesWorldSo (Err SinkFault) old new = ⊥
 
   -- why a line has no answer
-  abbrev pub StopsSo : (List Outcome → World (OnDisk (List (Object Cell))) → Answered (OnDisk (List (Object Cell)))) → Stop → StoreWorld (StoreState D) → StoreWorld (StoreState D) → Type 0
+  abbrev pub StopsSo : Means → Stop → StoreWorld (StoreState D) → StoreWorld (StoreState D) → Type 0
   StopsSo means DiskFault old new = FailsToOpen old new
   StopsSo means NoMemory old new = Wants means old new
   StopsSo means SinkFault old new = ⊥
 
   -- what a line is answered, or why it has no answer
-  abbrev pub RespondsSo : (List Outcome → World (OnDisk (List (Object Cell))) → Answered (OnDisk (List (Object Cell)))) → Result (Option Response) Stop → StoreWorld (StoreState D) → StoreWorld (StoreState D) → Type 0
-  RespondsSo means (Ok response) old new = Answers means response old new
+  abbrev pub RespondsSo : Means → Result (Option Response) Stop → StoreWorld (StoreState D) → StoreWorld (StoreState D) → Type 0
+  RespondsSo means (Ok response) old new = Responds means response old new
   RespondsSo means (Err stop) old new = StopsSo means stop old new

@@ -2,7 +2,8 @@ ghost use Rattle.std.specs.Prelude.{◌≡◌};
 ghost use Rattle.script_play.specs.StoreWorlds.{refused_response};
 
 use aw_cell::Text;
-use ses_step::{Answer, Refusal};
+use ses_report::Refusal;
+use ses_step::Answer;
 
 /// What a line is answered.
 #[derive(Clone, Copy)]

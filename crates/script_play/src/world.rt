@@ -1,11 +1,11 @@
-ghost use Rattle.std.specs.Prelude.{◌≡◌, ◌&&◌, ◌<◌, IfOk, OnOk, OnErr, IsSome, None, Some, true, false, is_none, nat_lt, length, slice_index_or, Err};
+ghost use Rattle.std.specs.Prelude.{◌≡◌, ◌&&◌, ◌<◌, min, IfOk, OnOk, OnErr, IsSome, None, Some, true, false, is_none, nat_lt, length, slice_index_or, Err};
 ghost use Rattle.aw_cell.specs.Names.{is_name};
 ghost use Rattle.aw_store.specs.Replay.{names_of};
 ghost use Rattle.ses_step.specs.Sessions.{new_session};
 ghost use Rattle.ses_step.specs.Words.{place_of};
 ghost use Rattle.script_world.specs.Worlds as spec;
 ghost use Rattle.script_play.specs.StoreWorlds.{IsSound, JoinsSo, can_join, own_place, placed};
-ghost use Rattle.script_play.specs.Turning.{TurnsAt, TurnWants, Answers, Wants, OpensSo, ClosesSo, FinishesWorldSo, RespondsSo, IsOpen, DefinesName, command_means, session_means, named_means, form_means, line_means};
+ghost use Rattle.script_play.specs.Turning.{TurnsAt, TurnWants, Answers, Wants, OpensSo, ClosesSo, FinishesWorldSo, RespondsSo, IsOpen, command_means, session_means, named_means, line_means};
 
 use crate::response::Response;
 use crate::stop::Stop;
@@ -159,20 +159,22 @@ impl<D: Disk> StoreWorld<Store<D>> {
         self.names.find(name).unwrap_or(self.names.len())
     }
 
-    /// Gives a name its place; one that hasn't appeared yet makes a session.
+    /// Gives a name its place; one that hasn't appeared yet makes a session, where there's room.
     fn add_session(&mut self, name: Text) -> Result<(), AllocError>
-        requires sound { length self.old.sessions ≡ length self.old.names }
-        requires room { own_place self.old name < 64 }
         ensures added { OnOk result (self.new ≡ placed self.old name) }
-        ensures there { OnOk result (own_place self.old name < length self.new.sessions) }
         ensures store { self.new.store ≡ self.old.store }
     {
         let who = self.session_place(&name);
         if who < self.names.len() {
             return Ok(());
         }
+        let last = self.names.len();
         self.names.push(name)?;
-        self.sessions.push(Session::new(who as u32))
+        if last < MOST_SESSIONS {
+            self.sessions.push(Session::new(last as u32))
+        } else {
+            Ok(())
+        }
     }
 
     /// What follows the prefix of the session at a place.
@@ -204,20 +206,21 @@ impl<D: Disk> StoreWorld<Store<D>> {
         name: Text,
         command: Option<Command>,
     ) -> Result<Response, AllocError>
-        requires paired { length self.old.sessions ≡ length self.old.names }
+        requires paired { length self.old.sessions ≡ min (length self.old.names) 64 }
         requires closed { IsOpen self.old.store }
         ensures ok { IfOk result (λ response. Answers D.faults D.clock D.crash (session_means name command) (Some response) self.old self.new) }
         ensures err { OnErr result (Wants D.faults D.clock D.crash (session_means name command) self.old self.new) }
     {
         let who = self.session_place(&name);
+        match self.add_session(name) {
+            Ok(()) => {}
+            Err(full) => return Err(full),
+        }
         if who >= MOST_SESSIONS {
             return Ok(Response::refused(no_session()));
         }
-        match self.add_session(name) {
-            Ok(()) => match self.command(alloc, who, command) {
-                Ok(response) => Ok(response),
-                Err(full) => Err(full),
-            },
+        match self.command(alloc, who, command) {
+            Ok(response) => Ok(response),
             Err(full) => Err(full),
         }
     }
@@ -241,13 +244,16 @@ impl<D: Disk> StoreWorld<Store<D>> {
         }
     }
 
-    /// What a line of this form is answered.
-    fn respond(&mut self, alloc: Global, line: Line) -> Result<Option<Response>, Stop>
-        requires sound { IsSound self.old }
-        requires named { DefinesName line }
-        ensures responds { RespondsSo D.faults D.clock D.crash (form_means line) result self.old self.new }
+    /// What a line is answered. After an `Err` the world is of no more use, but its store is.
+    pub fn answer(&mut self, alloc: Global, line: &[u8]) -> Result<Option<Response>, Stop>
+        requires { IsSound self.old }
+        ensures responds { RespondsSo D.faults D.clock D.crash (line_means line.now) result self.old self.new }
     {
-        match line {
+        let form = match read_line(alloc, line) {
+            Ok(form) => form,
+            Err(_) => return Err(Stop::NoMemory),
+        };
+        match form {
             Line::Blank => Ok(None),
             Line::Malformed => Ok(Some(Response::refused(no_session()))),
             Line::Definition(name) => match self.define(name) {
@@ -258,17 +264,6 @@ impl<D: Disk> StoreWorld<Store<D>> {
                 Ok(response) => Ok(response),
                 Err(stop) => Err(stop),
             },
-        }
-    }
-
-    /// What a line is answered. After an `Err` the world is of no more use, but its store is.
-    pub fn answer(&mut self, alloc: Global, line: &[u8]) -> Result<Option<Response>, Stop>
-        requires { IsSound self.old }
-        ensures responds { RespondsSo D.faults D.clock D.crash (line_means line.now) result self.old self.new }
-    {
-        match read_line(alloc, line) {
-            Ok(line) => self.respond(alloc, line),
-            Err(_) => Err(Stop::NoMemory),
         }
     }
 }

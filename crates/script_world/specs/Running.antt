@@ -1,48 +1,26 @@
--- What a program over a store has done, which learns how its commits end one by one.
-use Rattle.std.specs.Prelude.{◌≡◌, ◌++◌, ℕ, Bool, List, [], Option, unwrap_or}
-use Rattle.std.specs.Option.{option_map}
-use Rattle.std.specs.List.{count_by}
-use Rattle.aw_codec.specs.declared.record.Decoded.{Decoded}
-use Rattle.mv_core.specs.Integers.{integers}
-use Rattle.mv_core.specs.Workspace.{standing}
-use Rattle.aw_store.specs.Replay.{names_of, workspace_of}
-use Rattle.aw_store.specs.Stores.{StoreState}
-use Rattle.ses_step.specs.declared.answer.Answer.{Answer}
-use Rattle.script_world.specs.Worlds.{World, with_shared, answered}
-use Rattle.script_world.specs.Outcomes.{Outcome, Attempt, objects_machine, by_history, by_objects}
-use Rattle.script_world.specs.Transcript.{opening, text_of, any_refused, attempts_of, attempts, last_attempts, final_attempts}
-use Rattle.script_world.specs.FaultLines.{fault_lines, has_faulted}
-use Rattle.script_world.specs.Learning.{outcomes_of, world_with, text_with, refused_with, IsLearnt}
-use Rattle.script_world.specs.StoreTurns.{store_disk}
+-- What a program has done that learns one by one how its attempts end.
+use Rattle.std.specs.Prelude.{◌≡◌, ◌≤◌, ◌++◌, ◌+◌, ℕ, Bool, List, [], ◌∷◌, length, Option}
+use Rattle.ses_report.specs.Reports.{Answer}
+use Rattle.script_world.specs.Meaning.{Meaning}
+use Rattle.script_world.specs.Worlds.{World, Machine, Event, with_shared, answered, text_of, any_refused, world_after}
+use Rattle.script_world.specs.Outcomes.{Outcome, Attempt, Writing, OnDisk, on_disk, by_list, used}
 
--- From a disk with these records these lines were played. The commits that reached the disk had these outcomes, these
--- attempts were made, this text was due, and this is the world now.
-pub record HasRun {D : Type 0} (records : List Decoded) (lines : List (List ℕ)) (coming : List Outcome) (made : List Attempt) (text : List ℕ) (refused : Bool) (w : World (StoreState D)) : Type 0 where
-  pub world : world_with objects_machine (standing integers (workspace_of records [])) records coming lines ≡ with_shared (store_disk made []) w
-  pub learnt : IsLearnt objects_machine (standing integers (workspace_of records [])) records coming lines
-  pub all_made : attempts_of (with_shared (store_disk made []) w).shared ≡ made
-  pub due : text_with objects_machine (standing integers (workspace_of records [])) records coming lines ≡ text
-  pub refuses : refused_with objects_machine (standing integers (workspace_of records [])) records coming lines ≡ refused
+-- the outcomes from this attempt on are these
+abbrev pub Tells : (ℕ → Outcome) → ℕ → List Outcome → Type 0
+Tells next at [] = Unit {0}
+Tells next at (outcome ∷ outcomes) = (next at ≡ outcome) × Tells next (at + 1) outcomes
 
--- a line was answered after these attempts: its commit told these outcomes, and these attempts were made
-pub record AnswersLine {D : Type 0} (made : List Attempt) (line : List ℕ) (told : List Outcome) (more : List Attempt) (answer : Option Answer) (text : List ℕ) (refused : Bool) (old new : World (StoreState D)) : Type 0 where
-  pub answers : answered (by_objects told) (with_shared (store_disk made told) old) line ≡ record { answer = answer; text = text; refused = refused; world = with_shared (store_disk (made ++ more) []) new }
-  pub outcomes : outcomes_of more ≡ told
-  pub all_made : attempts_of (with_shared (store_disk (made ++ more) []) new).shared ≡ made ++ more
+-- the program has a state of its own, which with the attempts so far stands for one of the machine
+module _ {m : Meaning} {R S T : Type 0} (writing : Writing m R) (machine : Machine m S) (held : Option R → List (Attempt R) → T → OnDisk R S) where
+  pub record HasRun (start : World m (OnDisk R S)) (events : List Event) (coming : List Outcome) (opened : Option R) (made : List (Attempt R)) (text : List ℕ) (refused : Bool) (w : World m T) : Type 0 where
+    pub world : world_after (by_list writing machine coming) start events ≡ with_shared (held opened made) w
+    pub as_many : length made ≡ length coming
+    pub learnt : used (with_shared (held opened made) w).shared ≤ length coming
+    pub due : text_of (by_list writing machine coming) start events ≡ text
+    pub refuses : any_refused (by_list writing machine coming) start events ≡ refused
 
--- the world in which a store is opened: it is open where its records have definitions
-abbrev pub store_opening : {D : Type 0} → List Decoded → StoreState D → World (StoreState D)
-store_opening records store = record {
-  definitions = unwrap_or (names_of records) [];
-  shared = option_map (λ (names : List (List ℕ)). store) (names_of records);
-  names = [];
-  sessions = [];
-}
-
--- what was due is the transcript of the commits and the owners, and these are its attempts and its faults
-pub record IsRun {D : Type 0} (records : List Decoded) (lines : List (List ℕ)) (coming : List Outcome) (made : List Attempt) (text : List ℕ) (refused : Bool) (w : World (StoreState D)) : Type 0 where
-  pub text_is : text_of (by_history coming) (opening records coming) lines ≡ text
-  pub refused_is : any_refused (by_history coming) (opening records coming) lines ≡ refused
-  pub attempts_are : attempts records coming lines ≡ made
-  pub all_are : final_attempts records coming lines ≡ last_attempts w.definitions (with_shared (store_disk made []) w).shared
-  pub faults : count_by has_faulted coming ≡ fault_lines (by_history coming) (opening records coming) lines
+  -- an event was answered, which made and told so many more attempts
+  pub record AnswersEvent (opened after : Option R) (made more : List (Attempt R)) (told : List Outcome) (event : Event) (answer : Option Answer) (text : List ℕ) (old new : World m T) : Type 0 where
+    pub answers : (next : ℕ → Outcome) → Tells next (length made) told → answered (on_disk writing next machine) (with_shared (held opened made) old) event ≡ record { answer = answer; text = text; world = with_shared (held after (made ++ more)) new }
+    pub as_many : length more ≡ length told
+    pub learnt : used (with_shared (held after (made ++ more)) new).shared ≤ length (made ++ more)

@@ -2,3 +2,4 @@ mod Integers
 mod Texts
 mod FirstPlaces
 pub mod Mapping
+pub mod AnswerLines

@@ -16,13 +16,13 @@ use Rattle.ses_step.specs.declared.line.Command.{Command}
 use Rattle.ses_step.specs.declared.line.Command.TheVariants as command
 use Rattle.ses_step.specs.declared.answer.Answer.{Answer}
 use Rattle.ses_step.specs.declared.answer.Answer.TheVariants.{Done, Shown, Refused}
-use Rattle.ses_step.specs.declared.answer.Refusal.{Refusal}
+use Rattle.ses_report.specs.declared.refusal.Refusal.{Refusal}
 use Rattle.ses_step.specs.declared.session.Begun.{Begun}
 use Rattle.ses_step.specs.declared.session.Begun.TheVariants.{Said, Ask}
 use Rattle.ses_step.specs.declared.session.Session.{Session}
 use Rattle.ses_step.specs.declared.session.View.{View}
 use Rattle.ses_step.specs.Words.{place_of}
-use Rattle.ses_step.specs.Answers.{no_form, not_attached, already_attached, owned_by, newer, not_acquired, full, disk_fault}
+use Rattle.ses_report.specs.Refusals.{no_form, not_attached, already_attached, owned_by, newer, not_acquired, full, disk_fault}
 
 -- a session that isn't attached
 abbrev pub new_session : ℕ → Session

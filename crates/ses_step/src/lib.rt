@@ -8,7 +8,7 @@ mod names;
 mod session;
 mod word;
 
-pub use answer::{Answer, Detail, Refusal, append_line};
+pub use answer::{Answer, append_line};
 pub use line::{Command, Line, read_line};
 pub use names::Names;
 pub use session::{Begun, Session, View, name_at};

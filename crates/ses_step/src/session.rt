@@ -4,12 +4,13 @@ ghost use Rattle.mv_core.specs.declared.entry.Reply.TheVariants.{NoMemory};
 ghost use Rattle.ses_step.specs.declared.line.Command.TheVariants.{Attach, Acquire, Assign, Update, Commit, Show};
 ghost use Rattle.ses_step.specs.Sessions as spec;
 
-use crate::answer::{Answer, Refusal};
+use crate::answer::Answer;
 use crate::line::Command;
 use crate::names::Names;
 use aw_cell::{Cell, Text};
 use aw_lists::List;
 use mv_core::{Change, Entry, Fresh, Reply};
+use ses_report::Refusal;
 use std::alloc::{AllocError, Global};
 
 /// An object as an attached session sees it (docs/SHARING.md).
@@ -389,7 +390,7 @@ impl Session {
 #[cfg(test)]
 mod tests {
     use super::*;
-    use crate::answer::Detail;
+    use ses_report::Detail;
     use std::test::Fail;
 
     fn text(bytes: &[u8]) -> Result<Text, Fail> {
@@ -529,7 +530,14 @@ mod tests {
         ];
         for (reply, number, detail) in cases {
             let (answer, _) = turn(alloc, &mut session, &Command::Acquire(v), &reply)?;
-            assert_eq!(rt; answer, Answer::Refused(Refusal { number, detail }));
+            assert_eq!(rt;
+                answer,
+                Answer::Refused(Refusal {
+                    number,
+                    line: 0,
+                    detail
+                })
+            );
         }
         let asked = Entry::Attach { who: 0 };
         let refused = session.finish(alloc, &[], &[], &asked, &Reply::NoMemory);

@@ -15,4 +15,4 @@ returns-in-Err-clause-err g c =
 pub returns-in-None-clause-ok : goal.returns-in-None-clause-ok
 returns-in-None-clause-ok g c =
     command_none g.D.Disk.faults g.D.Disk.clock g.D.Disk.crash c.args.who c.args.command c.refused.result _ c.args.self.now c.in-None.is
-    (c.name_at-prefix.ensures ∙ ap (λ (names : List (List ℕ)). name_at names c.args.who) c.as_slice.ensures) c.refused.ensures
+    (c.name_at-prefix.ensures ∙ ap (λ (names : List (List ℕ)). name_at names c.args.who) c.as_slice.ensures) c.refused.ensures c.requires.closed c.requires.placed

@@ -1,15 +1,11 @@
-use Rattle.std.proofs.Common.{◌∙◌, ◌≤◌, ap, subst, sym}
+use Rattle.std.proofs.Common.{◌∙◌, ap}
 use Rattle.script_play.specs.StoreWorlds.{refused_response}
-use Rattle.script_play.specs.Turning.{IsOpen}
 use Rattle.script_play.proofs.Lines.{session_full, session_some, session_wants}
 use Rattle.script_play.proofs.world.StoreWorld+Store+D.session_line.Goals as goal
 
 pub returns-then-who-ge-MOST_SESSIONS-clause-ok : goal.returns-then-who-ge-MOST_SESSIONS-clause-ok
 returns-then-who-ge-MOST_SESSIONS-clause-ok g c =
-    session_full g.D.Disk.faults g.D.Disk.clock g.D.Disk.crash c.args.name c.args.command c.refused.result c.args.self.now (subst (λ at. 64 ≤ at) c.session_place-who.ensures c.if-who-ge-MOST_SESSIONS.true) (c.refused.ensures ∙ ap refused_response c.no_session.ensures)
-
-pub command-requires-clause-closed : goal.command-requires-clause-closed
-command-requires-clause-closed g c = subst IsOpen (sym c.add_session.ensures.store) c.requires.closed
+    session_full g.D.Disk.faults g.D.Disk.clock g.D.Disk.crash c.args.name c.args.command c.refused.result c.session_place-who.result c.args.self.now c.add_session.new.self c.session_place-who.ensures c.if-who-ge-MOST_SESSIONS.true c.requires.closed c.in-Ok.ensures.added (c.refused.ensures ∙ ap refused_response c.no_session.ensures)
 
 pub returns-in-Ok-command-clause-ok : goal.returns-in-Ok-command-clause-ok
 returns-in-Ok-command-clause-ok g c =

@@ -1,0 +1,118 @@
+-- A turn on a disk: that of the machine without one, with an attempt that is done, or with one that faulted and no change.
+use Rattle.std.specs.Prelude.{◌≡◌, ◌++◌, ℕ, ℤ, Bool, true, false, List, [], ◌∷◌, length, Option, None, Some, Result, Ok, Err, map, filter, if◌then◌else◌, refl}
+use Rattle.std.proofs.Common.{◌∙◌, ap, sym, subst}
+use Rattle.aw_codec.specs.declared.record.Decoded.{Decoded}
+use Rattle.mv_core.specs.declared.entry.Change.{Change}
+use Rattle.mv_core.specs.declared.entry.Entry.{Entry}
+use Rattle.mv_core.specs.declared.entry.Entry.TheVariants as entry
+use Rattle.mv_core.specs.declared.entry.Reply.{Reply}
+use Rattle.mv_core.specs.SharedStep.{writes}
+use Rattle.aw_store.specs.Stores.{record_of}
+use Rattle.ses_step.specs.declared.answer.Answer.TheVariants.{Done, Shown, Refused}
+use Rattle.ses_report.specs.declared.refusal.Refusal.{Refusal}
+use Rattle.ses_step.specs.declared.line.Command.{Command}
+use Rattle.ses_step.specs.declared.line.Command.TheVariants as command
+use Rattle.ses_step.specs.declared.session.Begun.{Begun}
+use Rattle.ses_step.specs.declared.session.Begun.TheVariants.{Said, Ask}
+use Rattle.ses_step.specs.declared.session.Session.{Session}
+use Rattle.ses_step.specs.declared.session.View.{View}
+use Rattle.aw_cell.specs.declared.cell.Cell.TheVariants.{Int}
+use Rattle.ses_report.specs.Refusals.{disk_fault, not_attached, already_attached}
+use Rattle.ses_step.specs.Sessions.{begun, located, with_view, updated, commit_asked, is_staged, change_of_view}
+use Rattle.script_world.specs.Worlds.{Machine}
+use Rattle.script_meaning.proofs.Begins.{asked_by}
+use Rattle.script_meaning.specs.Turns.{Turn, replied, turn_from, turn}
+use Rattle.script_world.specs.Outcomes.{Outcome, done, faulted, OnDisk, ended_so, written, on_disk}
+use Rattle.script_meaning.specs.Language.{language, store_writing, history_machine, by_history, HistoryDisk}
+
+-- ---- the three turns
+
+module _ {S : Type 0} (disk : OnDisk Decoded S) where
+  abbrev pub unwritten_turn : Turn S → Turn (OnDisk Decoded S)
+  unwritten_turn t = record { answer = t.answer; session = t.session; shared = record disk { state = t.shared } }
+
+  abbrev pub done_turn : Turn S → Entry → Turn (OnDisk Decoded S)
+  done_turn t asked = record {
+    answer = t.answer;
+    session = t.session;
+    shared = record disk { state = t.shared; tried = disk.tried ++ (record { attempted = record_of asked; outcome = done }) ∷ [] };
+  }
+
+  abbrev pub faulted_turn : Session → Entry → Turn (OnDisk Decoded S)
+  faulted_turn session asked = record {
+    answer = Refused disk_fault;
+    session = session;
+    shared = record disk { tried = disk.tried ++ (record { attempted = record_of asked; outcome = faulted }) ∷ [] };
+  }
+
+module _ {S : Type 0} (machine : Machine language S) (next : ℕ → Outcome) (definitions names : List (List ℕ)) (disk : OnDisk Decoded S) (P : Turn (OnDisk Decoded S) → Type 0) where
+  pub turn_from-cases : (b : Begun) (session : Session) →
+      (((asked : Entry) → b ≡ Ask asked → writes asked (machine.step disk.state asked).0 ≡ false) → P (unwritten_turn disk (turn_from machine definitions names disk.state (b, session)))) →
+      ((asked : Entry) → b ≡ Ask asked → writes asked (machine.step disk.state asked).0 ≡ true → P (done_turn disk (turn_from machine definitions names disk.state (b, session)) asked)) →
+      ((asked : Entry) → b ≡ Ask asked → writes asked (machine.step disk.state asked).0 ≡ true → P (faulted_turn disk session asked)) →
+      P (turn_from (on_disk store_writing next machine) definitions names disk (b, session))
+  turn_from-cases (Said answer) session unwritten_case done_case faulted_case = unwritten_case (λ asked is. cc)
+  turn_from-cases (Ask asked) session unwritten_case done_case faulted_case = by_test (writes asked r.0) refl
+    where
+      r : Reply × S
+      r = machine.step disk.state asked
+
+      by_outcome : writes asked r.0 ≡ true → (outcome : Outcome) → P (replied (on_disk store_writing next machine) definitions names session asked (ended_so store_writing outcome disk (record_of asked) r))
+      by_outcome writing done = done_case asked refl writing
+      by_outcome writing faulted = faulted_case asked refl writing
+
+      by_test : (test : Bool) → writes asked r.0 ≡ test → P (replied (on_disk store_writing next machine) definitions names session asked (written store_writing (next (length disk.tried)) disk r (if test then Some (record_of asked) else None)))
+      by_test true writing = by_outcome writing (next (length disk.tried))
+      by_test false not_writing = unwritten_case (λ other is. ap (λ it. writes it (machine.step disk.state it).0) (same_asked other asked is) ∙ not_writing)
+        where
+          same_asked : (other asked : Entry) → Ask asked ≡ Ask other → other ≡ asked
+          same_asked other asked is = cc
+
+-- ---- a command's turn
+
+-- what the session asks, and whether that writes a record
+pub record Writes {S : Type 0} (machine : Machine language S) (definitions : List (List ℕ)) (state : S) (session : Session) (command : Command) (asked : Entry) (writing : Bool) : Type 0 where
+  pub asks : (begun definitions session command).0 ≡ Ask asked
+  pub is : writes asked (machine.step state asked).0 ≡ writing
+
+module _ {S : Type 0} (machine : Machine language S) (next : ℕ → Outcome) (definitions names : List (List ℕ)) (disk : OnDisk Decoded S) (session : Session) (command : Command) (P : Turn (OnDisk Decoded S) → Type 0) where
+  abbrev plain : Turn S
+  plain = turn machine definitions names disk.state session command
+
+  abbrev WritesSo : Entry → Bool → Type 0
+  WritesSo asked writing = Writes machine definitions disk.state session command asked writing
+
+  pub turn-cases : (((asked : Entry) → (begun definitions session command).0 ≡ Ask asked → WritesSo asked false) → P (unwritten_turn disk plain)) →
+      ((asked : Entry) → WritesSo asked true → P (done_turn disk plain asked)) →
+      ((asked : Entry) → WritesSo asked true → P (faulted_turn disk session asked)) →
+      P (turn (on_disk store_writing next machine) definitions names disk session command)
+  turn-cases unwritten_case done_case faulted_case =
+      let b = begun definitions session command in
+      turn_from-cases machine next definitions names disk P b.0 b.1 (λ none. unwritten_case (λ asked is. record { asks = is; is = none asked is })) (λ asked is writing. done_case asked (record { asks = is; is = writing })) (λ asked is writing. subst (λ it. P (faulted_turn disk it asked)) (sym (asked_by definitions session command asked is).0) (faulted_case asked (record { asks = is; is = writing })))
+
+-- ---- the machine over commits and owners
+
+-- a command that isn't COMMIT writes no record
+module _ (coming : List Outcome) (definitions names : List (List ℕ)) (disk : HistoryDisk) (s : Session) where
+  abbrev IsUnwritten : Begun × Session → Type 0
+  IsUnwritten b = turn_from (by_history coming) definitions names disk b ≡ unwritten_turn disk (turn_from history_machine definitions names disk.state b)
+
+  pub attach-unwritten : (views : Option (List View)) → IsUnwritten (elim views [ None ↦ (Ask (entry.Attach s.who), s) | Some views ↦ (Said (Refused already_attached), s) ])
+  attach-unwritten None = refl
+  attach-unwritten (Some views) = refl
+
+  pub acquire-unwritten : (found : Result View Refusal) → IsUnwritten (elim found [ Err refusal ↦ (Said (Refused refusal), s) | Ok view ↦ (Ask (entry.Acquire s.who view.object view.number), s) ])
+  acquire-unwritten (Err refusal) = refl
+  acquire-unwritten (Ok view) = refl
+
+  pub assign-unwritten : (value : ℤ) (found : Result View Refusal) → IsUnwritten (elim found [ Err refusal ↦ (Said (Refused refusal), s) | Ok view ↦ (Said Done, with_view s (record view { private = Int value })) ])
+  assign-unwritten value (Err refusal) = refl
+  assign-unwritten value (Ok view) = refl
+
+  pub update-unwritten : (views : Option (List View)) → IsUnwritten (elim views [ None ↦ (Said (Refused not_attached), s) | Some views ↦ (Said Done, record s { views = Some (map updated views) }) ])
+  update-unwritten None = refl
+  update-unwritten (Some views) = refl
+
+  pub show-unwritten : (found : Result View Refusal) → IsUnwritten (elim found [ Err refusal ↦ (Said (Refused refusal), s) | Ok view ↦ (Said (Shown view.private), s) ])
+  show-unwritten (Err refusal) = refl
+  show-unwritten (Ok view) = refl

@@ -1,0 +1,142 @@
+-- A refused line changes nothing, and the faults of commits are seen.
+use Rattle.std.specs.Prelude.{◌≡◌, ◌≢◌, ◌&&◌, ◌==◌, ℕ, Bool, true, false, List, [], ◌∷◌, ◌++◌, length, nat_lt, Option, Some, None, is_none, is_some, Result, Ok, Err, slice_get, if◌then◌else◌, refl}
+use Rattle.std.proofs.Common.{◌∙◌, ap, sym, subst, ⊎_elim}
+use Rattle.std.proofs.lemmas.Bool.{true≢false}
+use Rattle.aw_codec.specs.declared.record.Decoded.{Decoded}
+use Rattle.mv_core.specs.declared.entry.Change.{Change}
+use Rattle.mv_core.specs.declared.entry.Entry.{Entry}
+use Rattle.mv_core.specs.declared.entry.Entry.TheVariants as entry
+use Rattle.mv_core.specs.declared.entry.Reply.{Reply}
+use Rattle.mv_core.specs.declared.entry.Reply.TheVariants.{Attached, Acquired, Committed, Owned, Newer, Stranger, Worn, Fault, NoMemory}
+use Rattle.mv_core.specs.Integers.{integers}
+use Rattle.mv_core.specs.SharedStep.{reply_of, workspace_after}
+use Rattle.mv_core.specs.Workspace.{Workspace, standing}
+use Rattle.ses_step.specs.declared.answer.Answer.TheVariants.{Done, Shown, Refused}
+use Rattle.ses_report.specs.declared.refusal.Refusal.{Refusal}
+use Rattle.ses_step.specs.declared.line.Command.{Command}
+use Rattle.ses_step.specs.declared.line.Line.{Line}
+use Rattle.ses_step.specs.declared.line.Line.TheVariants as line
+use Rattle.ses_step.specs.declared.session.Session.{Session}
+use Rattle.ses_step.specs.Lines.{line_form}
+use Rattle.ses_step.specs.Sessions.{begun, finished}
+use Rattle.ses_step.specs.Words.{place_of}
+use Rattle.script_meaning.proofs.Begins.{IsOwn, begins}
+use Rattle.script_meaning.proofs.FittingTurns.{acquire_reply-cases, commit_reply-cases}
+use Rattle.script_world.specs.Meaning as world
+use Rattle.script_world.specs.Outcomes.{Outcome, on_disk, among}
+use Rattle.script_world.proofs.DiskFits.{step-holds}
+use Rattle.script_world.specs.Faults.{refuses_so}
+use Rattle.script_world.proofs.Faults.{Hears}
+use Rattle.script_world.specs.Laws.{RefusalChangesNothing}
+use Rattle.script_world.specs.Worlds.{Event}
+use Rattle.script_meaning.specs.CommitFaults.{is_fault, fault_answer}
+use Rattle.script_meaning.specs.Matching.{SameState}
+use Rattle.ses_report.specs.Reports as report
+use Rattle.ses_report.specs.Refusals.{no_form}
+use Rattle.script_world.proofs.Refusals.{Mild, refusal_changes_nothing}
+use Rattle.script_meaning.specs.Language.{language, store_writing, Waiting, begun_of, begin, finish, form_of, can_define, defined_by, define, HistoryDisk, HistoryWorld, history_machine, by_history}
+
+abbrev QuietForm : world.Form (Option Command) → Type 0
+QuietForm (world.malformed refusal) = is_fault refusal ≡ false
+QuietForm _ = Unit {0}
+
+quiet_form : (l : Line) → QuietForm (form_of l)
+quiet_form line.Blank = tt
+quiet_form line.Malformed = refl
+quiet_form (line.Definition name) = tt
+quiet_form (line.Session name command) = tt
+
+abbrev QuietResult : Result (List (List ℕ)) Refusal → Type 0
+QuietResult (Ok d) = Unit {0}
+QuietResult (Err refusal) = is_fault refusal ≡ false
+
+quiet_define : (d : List (List ℕ)) (lines : List (List ℕ)) → QuietResult (define d lines)
+quiet_define d [] = refl
+quiet_define d (text ∷ texts) = by_line (line_form text)
+  where
+    by_line : (l : Line) → QuietResult (defined_by d l)
+    by_line (line.Definition name) = by_test (can_define d name)
+      where
+        by_test : (can : Bool) → QuietResult (if can then Ok (d ++ name ∷ []) else Err no_form)
+        by_test true = tt
+        by_test false = refl
+    by_line line.Blank = refl
+    by_line line.Malformed = refl
+    by_line (line.Session name command) = refl
+
+-- a session that answers alone tells of no fault, and one that refuses or asks is as it was
+abbrev Gentle : Session → world.Begun Entry Session Waiting → Type 0
+Gentle s (world.said answer after) = (refuses_so is_fault answer.refusal ≡ false) × (is_some answer.refusal ≡ true → after ≡ s)
+Gentle s (world.ask it waiting) = waiting ≡ (s, it)
+
+own_quiet : (refusal : Refusal) → IsOwn refusal → is_fault refusal ≡ false
+own_quiet refusal own =
+    ⊎_elim (λ is. ap is_fault is) (λ rest. ⊎_elim (λ is. ap is_fault is) (λ is. ap is_fault is) rest) own
+
+gentle : (d : List (List ℕ)) (s : Session) (statement : Option Command) → Gentle s (begin d s statement)
+gentle d s None = (refl, λ refused. refl)
+gentle d s (Some command) =
+    begins d s command (λ b. Gentle s (begun_of b)) (λ refusal own. (own_quiet refusal own, λ refused. refl)) (λ it asked. refl) (refl, λ refused. refl) (λ name value is views at view attached found. (refl, λ refused. absurd (true≢false (sym refused)))) (λ views attached. (refl, λ refused. absurd (true≢false (sym refused)))) (λ cell. (refl, λ refused. refl))
+
+gentle_said : (d : List (List ℕ)) (s : Session) (statement : Option Command) (answer : report.Answer) (after : Session) → begin d s statement ≡ world.said answer after → Gentle s (world.said answer after)
+gentle_said d s statement answer after is = subst (Gentle s) is (gentle d s statement)
+
+gentle_ask : (d : List (List ℕ)) (s : Session) (statement : Option Command) (it : Entry) (waiting : Waiting) → begin d s statement ≡ world.ask it waiting → waiting ≡ (s, it)
+gentle_ask d s statement it waiting is = subst (Gentle s) is (gentle d s statement)
+
+-- a reply of the step tells of no fault, whatever was asked
+reply_quiet : (d names : List (List ℕ)) (waiting : Waiting) (reply : Reply) → reply ≢ Fault → refuses_so is_fault (finish d names waiting reply).0.refusal ≡ false
+reply_quiet d names waiting (Attached fresh) other = refl
+reply_quiet d names waiting Acquired other = refl
+reply_quiet d names waiting Committed other = refl
+reply_quiet d names waiting (Owned object by) other = refl
+reply_quiet d names waiting (Newer object number) other = refl
+reply_quiet d names waiting (Stranger object) other = refl
+reply_quiet d names waiting (Worn object) other = refl
+reply_quiet d names waiting NoMemory other = refl
+reply_quiet d names waiting Fault other = absurd (other refl)
+
+no_fault : (shared : Workspace Change) (it : Entry) → reply_of (standing integers shared) it ≢ Fault
+no_fault shared (entry.Attach who) = λ same. cc
+no_fault shared (entry.Acquire who object number) =
+    acquire_reply-cases (λ reply. reply ≢ Fault) (slice_get (standing integers shared) object) who object number (λ at same. cc) (λ at by same. cc) (λ at latest same. cc) (λ found is may same. cc)
+no_fault shared (entry.Commit who changes) =
+    commit_reply-cases (λ reply. reply ≢ Fault) (standing integers shared) who changes (λ at same. cc) (λ at same. cc) (λ own unworn same. cc)
+
+-- where a reply of the step refuses, all is as it was
+abbrev Calm : List (List ℕ) → List (List ℕ) → Workspace Change → Session → Entry → Reply → Type 0
+Calm d names shared s it reply =
+    is_some (finish d names (s, it) reply).0.refusal ≡ true → ((finish d names (s, it) reply).1 ≡ s) × (workspace_after shared it reply ≡ shared)
+
+calm : (d names : List (List ℕ)) (shared : Workspace Change) (s : Session) (it : Entry) → Calm d names shared s it (reply_of (standing integers shared) it)
+calm d names shared s (entry.Attach who) = λ refused. absurd (true≢false (sym refused))
+calm d names shared s (entry.Acquire who object number) =
+    acquire_reply-cases (Calm d names shared s (entry.Acquire who object number)) (slice_get (standing integers shared) object) who object number (λ at refused. (refl, refl)) (λ at by refused. (refl, refl)) (λ at latest refused. (refl, refl)) (λ found is may refused. absurd (true≢false (sym refused)))
+calm d names shared s (entry.Commit who changes) =
+    commit_reply-cases (Calm d names shared s (entry.Commit who changes)) (standing integers shared) who changes (λ at refused. (refl, refl)) (λ at refused. (refl, refl)) (λ own unworn refused. absurd (true≢false (sym refused)))
+
+pub language_hears : Hears is_fault fault_answer store_writing history_machine
+language_hears = record {
+  forms = λ lines text refusal is. subst QuietForm is (quiet_form (line_form text));
+  definitions = λ d lines refusal is. subst QuietResult is (quiet_define d lines);
+  late = λ lines. refl;
+  crowded = refl;
+  begins = λ d s statement answer after is. (gentle_said d s statement answer after is).0;
+  finishes = λ d names shared waiting it. reply_quiet d names waiting (reply_of (standing integers shared) it) (no_fault shared it);
+  faults = λ d names waiting. refl;
+  fault_tells = refl;
+}
+
+-- the commits and the owners are as before
+pub language_mild : (next : ℕ → Outcome) → Mild SameState (on_disk store_writing next history_machine)
+language_mild next = record {
+  same = λ disk. refl;
+  begins = λ d s statement answer after is refused. (gentle_said d s statement answer after is).1 refused;
+  steps = λ d names disk s statement it waiting is.
+      let asked = gentle_ask d s statement it waiting is in
+      let P : Waiting → Reply → HistoryDisk → Type 0 = λ those reply after. is_some (finish d names those reply).0.refusal ≡ true → ((finish d names those reply).1 ≡ s) × (after.state ≡ disk.state) in
+      subst (λ (those : Waiting). let r = (on_disk store_writing next history_machine).step disk it in P those r.0 r.1) (sym asked) (step-holds store_writing history_machine next (λ reply after. is_some (finish d names (s, it) reply).0.refusal ≡ true → ((finish d names (s, it) reply).1 ≡ s) × (after ≡ disk.state)) disk it (calm d names disk.state s it) (λ refused. (refl, refl)));
+}
+
+pub refusals_change_nothing : (coming : List Outcome) (w : HistoryWorld) (event : Event) → RefusalChangesNothing SameState (by_history coming) w event
+refusals_change_nothing coming w event = refusal_changes_nothing SameState (by_history coming) (language_mild (among coming)) w event

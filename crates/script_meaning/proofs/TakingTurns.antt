@@ -1,0 +1,57 @@
+-- A line with a session's command is answered by a turn of this session.
+use Rattle.std.specs.Prelude.{◌≡◌, ◌<◌, ℕ, Bool, true, List, length, Option, Some, nat_lt, slice_set, unwrap_or, if◌then◌else◌, refl}
+use Rattle.std.proofs.Common.{◌∙◌, ap}
+use Rattle.std.proofs.lemmas.Bool.{lt-ltb}
+use Rattle.ses_step.specs.declared.line.Command.{Command}
+use Rattle.ses_step.specs.declared.line.Line.TheVariants as form
+use Rattle.ses_step.specs.declared.session.Begun.{Begun}
+use Rattle.ses_step.specs.declared.session.Begun.TheVariants.{Said, Ask}
+use Rattle.ses_step.specs.declared.session.Session.{Session}
+use Rattle.ses_step.specs.Answers.{answer_of}
+use Rattle.ses_step.specs.Lines.{line_form}
+use Rattle.ses_step.specs.Sessions.{begun}
+use Rattle.script_world.specs.Meaning.{under}
+use Rattle.script_world.specs.Worlds.{World, Machine, line, Answered, answers, name_at, answered_so, session_place, with_name, with_session, own_session, begun_so, commanded, crowded_out, shared_of, closed, form_planned, settled, answered}
+use Rattle.script_world.specs.Outcomes.{Outcome}
+use Rattle.script_world.proofs.Moves.{if-holds}
+use Rattle.script_meaning.specs.Language.{language, begun_of, form_of, HistoryDisk, HistoryWorld, by_history}
+use Rattle.script_meaning.specs.TakingTurns.{with_turn, LinesTakeTurns}
+use Rattle.script_meaning.specs.Turns.{turn_from, turn}
+
+module _ {S : Type 0} (machine : Machine language S) (w : World language S) (who : ℕ) (shared : S) (is_open : w.shared ≡ Some shared) where
+  pub commanded-turn : (own : Command) → settled machine (commanded w shared who (Some own)) ≡ with_turn w who (turn machine w.definitions w.names shared (own_session w who) own)
+  commanded-turn own = let b = begun w.definitions (own_session w who) own in by_begun b.0 b.1
+    where
+      by_begun : (first : Begun) (session : Session) → settled machine (begun_so w shared who (begun_of (first, session))) ≡ with_turn w who (turn_from machine w.definitions w.names shared (first, session))
+      by_begun (Said answer) session =
+          ap (λ those. let it : World language S = record w { shared = those; sessions = slice_set w.sessions who session } in answered_so (name_at w.names who) (answer_of answer) it) is_open
+      by_begun (Ask entry) session = refl
+
+pub lines_take_turns : (coming : List Outcome) (w : HistoryWorld) → LinesTakeTurns coming w
+lines_take_turns coming w text name own is room =
+    ap (λ l. settled machine (form_planned machine.opens w text (form_of l))) is
+    ∙ ap (λ (test : Bool). settled machine (if test then commanded here (shared_of machine.opens here) who (Some own) else answers (crowded_out here who))) (lt-ltb who 64 room)
+    ∙ ap (λ disk. settled machine (commanded here disk who (Some own))) same
+    ∙ commanded-turn machine here who disk is_open own
+  where
+    machine : Machine language HistoryDisk
+    machine = by_history coming
+
+    who : ℕ
+    who = session_place w name
+
+    open_world : HistoryWorld
+    open_world = closed machine.opens w
+
+    here : HistoryWorld
+    here = with_session open_world name
+
+    disk : HistoryDisk
+    disk = shared_of machine.opens w
+
+    is_open : here.shared ≡ Some disk
+    is_open =
+        if-holds (λ (those : HistoryWorld). those.shared ≡ Some disk) (nat_lt who (length w.names)) open_world (with_name open_world name) refl refl
+
+    same : shared_of machine.opens here ≡ disk
+    same = ap (λ (shared : Option HistoryDisk). unwrap_or shared (machine.opens here.definitions)) is_open

@@ -1,0 +1,5 @@
+use Rattle.script_meaning.proofs.Acquiring.{acquires_are_answered}
+use Rattle.script_meaning.proofs.laws.acquires_are_answered.Goals as goal
+
+pub returns : goal.returns
+returns c = acquires_are_answered

@@ -1,0 +1,5 @@
+use Rattle.script_meaning.proofs.AllDone.{as_with_none}
+use Rattle.script_meaning.proofs.laws.done_outcomes_change_nothing.Goals as goal
+
+pub returns : goal.returns
+returns c = as_with_none

@@ -1,0 +1,15 @@
+use Rattle.script_meaning.proofs.Reading.{attach_gives_latest, own_commands_move, shows_what_is_read}
+use Rattle.script_meaning.proofs.ReadingOn.{read_its_own}
+use Rattle.script_meaning.proofs.laws.sessions_read_their_own.Goals as goal
+
+pub returns-clause-attached : goal.returns-clause-attached
+returns-clause-attached c = attach_gives_latest
+
+pub returns-clause-moved : goal.returns-clause-moved
+returns-clause-moved c = own_commands_move
+
+pub returns-clause-shown : goal.returns-clause-shown
+returns-clause-shown c = shows_what_is_read
+
+pub returns-clause-since : goal.returns-clause-since
+returns-clause-since c names records coming events can = read_its_own names records coming can events

@@ -1,0 +1,5 @@
+use Rattle.script_meaning.proofs.Reached.{always_fits}
+use Rattle.script_meaning.proofs.laws.views_fit.Goals as goal
+
+pub returns : goal.returns
+returns c = always_fits

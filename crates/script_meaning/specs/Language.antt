@@ -1,0 +1,132 @@
+-- The lines that a session reads, as a meaning: INTEGER variables, each defined by one line, and six commands.
+use Rattle.std.specs.Prelude.{◌&&◌, ℕ, Bool, true, false, List, [], ◌∷◌, ◌++◌, length, nat_lt, Option, Some, None, is_none, Result, Ok, Err, if◌then◌else◌}
+use Rattle.aw_cell.specs.declared.cell.Cell.{Cell}
+use Rattle.aw_codec.specs.declared.record.Decoded.{Decoded}
+use Rattle.aw_codec.specs.declared.record.Decoded.TheVariants as stored
+use Rattle.mv_core.specs.declared.entry.Change.{Change}
+use Rattle.mv_core.specs.declared.entry.Entry.{Entry}
+use Rattle.mv_core.specs.declared.entry.Reply.{Reply}
+use Rattle.mv_core.specs.declared.entry.Reply.TheVariants.{Fault}
+use Rattle.mv_core.specs.declared.object.Object.{Object}
+use Rattle.mv_core.specs.Integers.{integers}
+use Rattle.mv_core.specs.SharedStep.{writes, shared_step, objects_step}
+use Rattle.mv_core.specs.Workspace.{Workspace, opened, standing}
+use Rattle.aw_store.specs.Stores.{record_of}
+use Rattle.ses_report.specs.declared.refusal.Refusal.{Refusal}
+use Rattle.ses_report.specs.Refusals.{no_form}
+use Rattle.ses_report.specs.Reports as report
+use Rattle.ses_step.specs.declared.line.Line.{Line}
+use Rattle.ses_step.specs.declared.line.Line.TheVariants as line
+use Rattle.ses_step.specs.declared.line.Command.{Command}
+use Rattle.ses_step.specs.declared.answer.Answer.TheVariants.{Refused}
+use Rattle.ses_step.specs.declared.session.Begun.{Begun}
+use Rattle.ses_step.specs.declared.session.Begun.TheVariants.{Said, Ask}
+use Rattle.ses_step.specs.declared.session.Session.{Session}
+use Rattle.ses_step.specs.Words.{place_of}
+use Rattle.ses_step.specs.Lines.{line_form}
+use Rattle.ses_step.specs.Answers.{answer_of}
+use Rattle.ses_step.specs.Sessions.{new_session, begun, finished}
+use Rattle.script_world.specs.Meaning as world
+use Rattle.script_world.specs.Worlds.{World, Machine, no_session}
+use Rattle.script_world.specs.Outcomes.{Outcome, OnDisk, Writing, by_list}
+
+-- ---- a line
+
+-- each definition is one line
+abbrev pub form_of : Line → world.Form (Option Command)
+form_of line.Blank = world.nothing
+form_of line.Malformed = world.malformed no_form
+form_of (line.Definition name) = world.ends
+form_of (line.Session name command) = world.under name command
+
+-- a name can be defined once, and 4,096 names in all
+abbrev pub can_define : List (List ℕ) → List ℕ → Bool
+can_define definitions name = nat_lt (length definitions) 4096 && is_none (place_of definitions name)
+
+abbrev pub defined_by : List (List ℕ) → Line → Result (List (List ℕ)) Refusal
+defined_by definitions (line.Definition name) = if can_define definitions name then Ok (definitions ++ name ∷ []) else Err no_form
+defined_by definitions _ = Err no_form
+
+abbrev pub define : List (List ℕ) → List (List ℕ) → Result (List (List ℕ)) Refusal
+define definitions [] = Err no_form
+define definitions (text ∷ texts) = defined_by definitions (line_form text)
+
+abbrev pub is_any : List (List ℕ) → Bool
+is_any [] = false
+is_any (name ∷ names) = true
+
+-- ---- a command
+
+-- a session that waits keeps the entry that it asked
+abbrev pub Waiting : Type 0
+Waiting = Session × Entry
+
+abbrev pub begun_of : Begun × Session → world.Begun Entry Session Waiting
+begun_of (Said answer, session) = world.said (answer_of answer) session
+begun_of (Ask entry, session) = world.ask entry (session, entry)
+
+-- what is no command of its own is refused
+abbrev pub begin : List (List ℕ) → Session → Option Command → world.Begun Entry Session Waiting
+begin definitions s None = world.said (answer_of (Refused no_form)) s
+begin definitions s (Some command) = begun_of (begun definitions s command)
+
+abbrev pub finish : List (List ℕ) → List (List ℕ) → Waiting → Reply → report.Answer × Session
+finish definitions names waiting reply =
+    let f = finished definitions names waiting.0 waiting.1 reply in
+    (answer_of f.0, f.1)
+
+abbrev pub language : world.Meaning
+language = record {
+  Definitions = List (List ℕ);
+  Session = Session;
+  Waiting = Waiting;
+  Statement = Option Command;
+  Entry = Entry;
+  Reply = Reply;
+  form = λ open_lines text. form_of (line_form text);
+  define = define;
+  none_defined = [];
+  is_any = is_any;
+  new_session = new_session;
+  begin = begin;
+  finish = finish;
+  late = λ lines. no_form;
+  crowded = no_form;
+  crowded_prefix = λ name. no_session;
+}
+
+-- ---- the shared state, and its records
+
+-- a record of the definitions, and one of each commit with changes that is granted
+abbrev pub store_writing : Writing language Decoded
+store_writing = record {
+  of_definitions = λ definitions. stored.Definitions definitions;
+  of_step = λ entry reply. if writes entry reply then Some (record_of entry) else None;
+  fault = Fault;
+}
+
+-- the commits and the owners, from which the generations follow
+abbrev pub history_machine : Machine language (Workspace Change)
+history_machine = record { opens = λ definitions. opened (length definitions); step = shared_step }
+
+-- each object as it stands
+abbrev pub objects_machine : Machine language (List (Object Cell))
+objects_machine = record { opens = λ definitions. standing integers (opened (length definitions)); step = objects_step }
+
+abbrev pub HistoryDisk : Type 0
+HistoryDisk = OnDisk Decoded (Workspace Change)
+
+abbrev pub ObjectsDisk : Type 0
+ObjectsDisk = OnDisk Decoded (List (Object Cell))
+
+abbrev pub HistoryWorld : Type 0
+HistoryWorld = World language HistoryDisk
+
+abbrev pub ObjectsWorld : Type 0
+ObjectsWorld = World language ObjectsDisk
+
+abbrev pub by_history : List Outcome → Machine language HistoryDisk
+by_history coming = by_list store_writing history_machine coming
+
+abbrev pub by_objects : List Outcome → Machine language ObjectsDisk
+by_objects coming = by_list store_writing objects_machine coming

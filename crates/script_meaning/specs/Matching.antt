@@ -1,0 +1,41 @@
+-- What is acknowledged is what the disk will be opened to: the commits of a world are those of the records that were there
+-- when the disk was opened, and then of the attempts that were done.
+use Rattle.std.specs.Prelude.{◌≡◌, ◌++◌, ℕ, List, [], ◌∷◌, None, Some, unwrap_or, IsTrue}
+use Rattle.std.specs.Option.{ForSome}
+use Rattle.aw_codec.specs.declared.record.Decoded.{Decoded}
+use Rattle.mv_core.specs.declared.entry.Change.{Change}
+use Rattle.mv_core.specs.Workspace.{Workspace}
+use Rattle.aw_store.specs.Replay.{can_replay, names_of, commits_of, workspace_of}
+use Rattle.aw_store.specs.Images.{AreRecords}
+use Rattle.script_world.specs.Worlds.{Event, script_ends}
+use Rattle.script_world.specs.Outcomes.{Outcome}
+use Rattle.script_world.specs.Left.{settled_records}
+use Rattle.script_meaning.specs.Language.{HistoryDisk}
+use Rattle.script_meaning.specs.Transcript.{world_at, attempts}
+
+-- a store opens with these records
+pub record CanBeOpened (records : List Decoded) : Type 0 where
+  pub spellings : AreRecords records
+  pub replayable : IsTrue (can_replay records)
+
+-- these records stand for this shared state over these definitions
+pub record StandFor (records : List Decoded) (definitions : List (List ℕ)) (state : Workspace Change) : Type 0 where
+  pub names : names_of records ≡ Some definitions
+  pub commits : commits_of records ≡ state.history
+  pub workspace : workspace_of records state.owners ≡ state
+
+-- of the events so far
+pub record RecordsMatch (names : List (List ℕ)) (records : List Decoded) (coming : List Outcome) (events : List Event) : Type 0 where
+  pub can_be_opened : CanBeOpened (settled_records records (attempts names records coming events))
+  pub stand_for : ForSome (world_at names records coming events).shared (λ disk. StandFor (settled_records records (attempts names records coming events)) (world_at names records coming events).definitions disk.state)
+  pub unopened : (world_at names records coming events).shared ≡ None → settled_records records (attempts names records coming events) ≡ []
+
+-- and of a script that has ended: its definitions are among the records
+abbrev pub EndMatches : List (List ℕ) → List Decoded → List Outcome → List Event → Type 0
+EndMatches names records coming events =
+    let all = events ++ script_ends ∷ [] in
+    unwrap_or (names_of (settled_records records (attempts names records coming all))) [] ≡ (world_at names records coming all).definitions
+
+-- the commits and the owners are the same
+abbrev pub SameState : HistoryDisk → HistoryDisk → Type 0
+SameState before after = after.state ≡ before.state

@@ -1,0 +1,40 @@
+-- The transcript of a script on a disk: each event's answer, in order, each in the world that the events before it left.
+use Rattle.std.specs.Prelude.{ℕ, Bool, List, []}
+use Rattle.aw_cell.specs.declared.cell.Cell.{Cell}
+use Rattle.aw_codec.specs.declared.record.Decoded.{Decoded}
+use Rattle.mv_core.specs.declared.object.Object.{Object}
+use Rattle.mv_core.specs.Integers.{integers}
+use Rattle.mv_core.specs.Workspace.{standing}
+use Rattle.aw_store.specs.Replay.{names_of, workspace_of}
+use Rattle.script_world.specs.Worlds.{Event, text_of, any_refused, world_after, ended_events, script_events}
+use Rattle.script_world.specs.Outcomes as disk
+use Rattle.script_world.specs.Outcomes.{Outcome, Attempt, attempts_of}
+use Rattle.script_meaning.specs.Language.{HistoryWorld, ObjectsWorld, by_history}
+
+-- The world in which a disk with these records is opened: without a record of definitions nothing is defined and nothing is
+-- open. These names of sessions are known before.
+abbrev pub opening : List (List ℕ) → List Decoded → HistoryWorld
+opening names records = disk.opening names (names_of records) (workspace_of records [])
+
+-- the same over the objects as these commits leave them
+abbrev pub opening_objects : List (List ℕ) → List Decoded → ObjectsWorld
+opening_objects names records = disk.opening names (names_of records) (standing integers (workspace_of records []))
+
+-- what the whole script is answered, and whether a line of it is refused
+abbrev pub transcript : List (List ℕ) → List Decoded → List Outcome → List ℕ → List ℕ
+transcript names records coming script = text_of (by_history coming) (opening names records) (script_events script)
+
+abbrev pub has_refusal : List (List ℕ) → List Decoded → List Outcome → List ℕ → Bool
+has_refusal names records coming script = any_refused (by_history coming) (opening names records) (script_events script)
+
+-- what the lines that ended are answered
+abbrev pub ended_transcript : List (List ℕ) → List Decoded → List Outcome → List ℕ → List ℕ
+ended_transcript names records coming bytes = text_of (by_history coming) (opening names records) (ended_events bytes)
+
+-- the world after these events
+abbrev pub world_at : List (List ℕ) → List Decoded → List Outcome → List Event → HistoryWorld
+world_at names records coming events = world_after (by_history coming) (opening names records) events
+
+-- the records that these events were to write
+abbrev pub attempts : List (List ℕ) → List Decoded → List Outcome → List Event → List (Attempt Decoded)
+attempts names records coming events = attempts_of (world_at names records coming events).shared

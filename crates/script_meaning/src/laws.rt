@@ -1,0 +1,153 @@
+//! What holds at every moment of every run, on a disk that was opened with any records that can be
+//! replayed, whichever names of sessions are known before, and whichever of its commits meet a fault
+//! of the disk.
+
+ghost use Rattle.std.specs.Prelude.{◌≤◌, ◌++◌, ℕ, List, length};
+ghost use Rattle.aw_codec.specs.declared.record.Decoded.{Decoded};
+ghost use Rattle.script_world.specs.Faults.{SeesFaults, FaultsAreSeen};
+ghost use Rattle.script_world.specs.Laws.{KeepsOthers, SameOf, GoesOn, RefusalChangesNothing};
+ghost use Rattle.script_world.specs.Left.{LeavesAllDone};
+ghost use Rattle.script_world.specs.Outcomes.{Outcome, Attempt, used};
+ghost use Rattle.script_world.specs.Worlds.{Event};
+ghost use Rattle.script_meaning.specs.Acquiring.{AcquiresAreAnswered};
+ghost use Rattle.script_meaning.specs.Alike.{AreAlike};
+ghost use Rattle.script_meaning.specs.AllDone.{AreDone, IsAsWithNone};
+ghost use Rattle.script_meaning.specs.Answering.{CommandsAreAnswered, AssignmentsAreDone};
+ghost use Rattle.script_meaning.specs.CommitFaults.{is_fault, fault_answer};
+ghost use Rattle.script_meaning.specs.CrashRuns.{LeavesARunOf, LeavesWhatOpens};
+ghost use Rattle.script_meaning.specs.Extending.{CommitsExtend, GrantsHaveLatest};
+ghost use Rattle.script_meaning.specs.Fit.{WorldFits};
+ghost use Rattle.script_meaning.specs.Language.{HistoryWorld, store_writing, history_machine, by_history};
+ghost use Rattle.script_meaning.specs.Matching.{CanBeOpened, RecordsMatch, EndMatches, SameState};
+ghost use Rattle.script_meaning.specs.Reading.{AttachGivesLatest, OwnCommandsMove, ShowsWhatIsRead, ReadItsOwn};
+ghost use Rattle.script_meaning.specs.SameRecords.{SameRecords};
+ghost use Rattle.script_meaning.specs.TakingTurns.{LinesTakeTurns};
+ghost use Rattle.script_meaning.specs.Transcript.{opening, world_at};
+
+/// After any lines of a script the views of each attached session fit what is committed and owned:
+/// the session has one committed generation of each object, has the latest one of an object that
+/// it owns, and has staged nothing of an object that it doesn't own. Only attached sessions own
+/// objects. See docs/SHARING.md, 'What is proved'.
+pub fn views_fit()
+    ensures { (names : List (List ℕ)) (records : List Decoded) (coming : List Outcome) (events : List Event) → CanBeOpened records → WorldFits (world_at names records coming events) }
+{}
+
+/// After any lines of a script, a COMMIT of an attached session that is answered `ok` makes each
+/// staged body the generation behind the one that the session had, which was the latest, and adds
+/// none to any other object. Else it is refused, with 22 where an object's numbers are used up or
+/// with 30 where the disk failed, and then changes nothing. See docs/SHARING.md, 'What is proved'.
+pub fn commits_extend_the_latest()
+    ensures { (names : List (List ℕ)) (records : List Decoded) (coming : List Outcome) (events : List Event) → CanBeOpened records → CommitsExtend coming (world_at names records coming events) }
+{}
+
+/// After any lines of a script, an ACQUIRE of an attached session that is answered `ok` is of an
+/// object of which the session has the latest generation, and the session owns it from then on.
+/// See docs/SHARING.md, 'What is proved'.
+pub fn grants_have_the_latest()
+    ensures { (names : List (List ℕ)) (records : List Decoded) (coming : List Outcome) (events : List Event) → CanBeOpened records → GrantsHaveLatest coming (world_at names records coming events) }
+{}
+
+/// After any lines of a script, an ACQUIRE of a defined object is answered by its owner, and where
+/// it has none by whether the session has its latest generation. See docs/SHARING.md, 'What is
+/// proved'.
+pub fn acquires_are_answered()
+    ensures { (names : List (List ℕ)) (records : List Decoded) (coming : List Outcome) (events : List Event) → CanBeOpened records → AcquiresAreAnswered coming (world_at names records coming events) }
+{}
+
+/// What a session reads is its own. AW ATTACH gives it the latest generation of each object. From
+/// then on it reads that, or what its own lines assigned last, and SHOW shows this. A command of its
+/// own moves what it has of an object so: it stages by UPDATE alone, has another generation by its
+/// own COMMIT alone, and gains an object by ACQUIRE alone. See docs/SHARING.md, 'What is proved'.
+pub fn sessions_read_their_own()
+    ensures attached { (coming : List Outcome) → AttachGivesLatest coming }
+    ensures moved { (names : List (List ℕ)) (records : List Decoded) (coming : List Outcome) (events : List Event) → CanBeOpened records → OwnCommandsMove coming (world_at names records coming events) }
+    ensures shown { (names : List (List ℕ)) (records : List Decoded) (coming : List Outcome) (events : List Event) → CanBeOpened records → ShowsWhatIsRead coming (world_at names records coming events) }
+    ensures since { (names : List (List ℕ)) (records : List Decoded) (coming : List Outcome) (events : List Event) → CanBeOpened records → ReadItsOwn names records coming events }
+{}
+
+/// A line changes nothing of what a session holds, unless it is of that session. So what a session
+/// sees changes by its own lines alone. See docs/SHARING.md, 'What is proved'.
+pub fn lines_keep_other_sessions()
+    ensures { (coming : List Outcome) (w : HistoryWorld) (event : Event) → KeepsOthers (by_history coming) w event }
+{}
+
+/// A command is refused with 1 where it names an object that isn't defined; else with 15 where its
+/// session isn't attached, or with 16 where it is an AW ATTACH of one that is. UPDATE of an attached
+/// session is answered `ok`, and after any lines of a script so is its assignment to a defined object.
+/// See docs/SHARING.md, 'What is proved'.
+pub fn commands_are_answered()
+    ensures in_order { (coming : List Outcome) → CommandsAreAnswered coming }
+    ensures assigned { (names : List (List ℕ)) (records : List Decoded) (coming : List Outcome) (events : List Event) → CanBeOpened records → AssignmentsAreDone coming (world_at names records coming events) }
+{}
+
+/// A refused line changes nothing: the definitions, the commits, the owners and what each session
+/// holds are as before. A line with a session's name may still name a new session and close the
+/// definitions. See docs/SHARING.md, 'What is proved'.
+pub fn refusals_change_nothing()
+    ensures { (coming : List Outcome) (w : HistoryWorld) (event : Event) → RefusalChangesNothing SameState (by_history coming) w event }
+{}
+
+/// After any lines of a script, the definitions, the commits and so the generations are those of the
+/// records with which the disk was opened and then of the attempts that were done; and these
+/// records can be replayed. So what was acknowledged is what a later run finds. The same holds of
+/// the definitions at the end of a script. See docs/SHARING.md, 'Commits on a disk'.
+pub fn records_match()
+    ensures so_far { (names : List (List ℕ)) (records : List Decoded) (coming : List Outcome) (events : List Event) → CanBeOpened records → RecordsMatch names records coming events }
+    ensures at_the_end { (names : List (List ℕ)) (records : List Decoded) (coming : List Outcome) (events : List Event) → CanBeOpened records → EndMatches names records coming events }
+{}
+
+/// Outcomes behind those that the commits of some lines used change nothing of these lines, but
+/// that more are to come. So a program that doesn't know them yet has answered these lines all the
+/// same, and goes on with the outcomes that the next line's commit tells. See docs/SHARING.md,
+/// 'Commits on a disk'.
+pub fn text_is_told_once()
+    ensures told { (names : List (List ℕ)) (records : List Decoded) (coming more : List Outcome) (events : List Event) →
+        used (world_at names records coming events).shared ≤ length coming →
+        SameOf (by_history coming) (by_history (coming ++ more)) (opening names records) events }
+    ensures goes_on { (names : List (List ℕ)) (records : List Decoded) (coming new : List Outcome) (events : List Event) (event : Event) →
+        used (world_at names records coming events).shared ≤ length coming →
+        GoesOn store_writing history_machine (opening names records) coming new events event }
+{}
+
+/// A line is refused with 30, which is written, exactly where the disk failed in one attempt more.
+/// So the number of these lines is the number of attempts in which the disk failed, and that of the
+/// commits' outcomes that are faults. See docs/SHARING.md, 'Commits on a disk'.
+pub fn faults_are_seen()
+    ensures each { (coming : List Outcome) (w : HistoryWorld) (event : Event) → SeesFaults is_fault (by_history coming) fault_answer w event }
+    ensures all { (coming : List Outcome) (w : HistoryWorld) (events : List Event) → FaultsAreSeen is_fault (by_history coming) w events }
+{}
+
+/// Where each commit's outcome is done, nothing depends on the list of outcomes: the text, the
+/// refusals, the attempts and the world are those with no outcomes at all. See docs/SHARING.md,
+/// 'What is proved'.
+pub fn done_outcomes_change_nothing()
+    ensures { (names : List (List ℕ)) (records : List Decoded) (outcomes : List Outcome) (events : List Event) → AreDone outcomes → IsAsWithNone names records outcomes events }
+{}
+
+/// The objects as they stand, which the code keeps, write the text, refuse the lines and make the
+/// attempts that the commits and the owners do. See docs/SHARING.md, 'What is proved'.
+pub fn objects_answer_as_commits()
+    ensures { (names : List (List ℕ)) (records : List Decoded) (coming : List Outcome) (events : List Event) → AreAlike names records coming events }
+{}
+
+/// After an attempt that was done, a crash leaves the records with which the disk was opened and
+/// those of all attempts that were done, and nothing else. See docs/SHARING.md, 'Commits on a disk'.
+pub fn acknowledged_records_are_left()
+    ensures { (opened : List Decoded) (made : List (Attempt Decoded)) (attempted : Decoded) (records : List Decoded) → LeavesAllDone SameRecords opened made attempted records }
+{}
+
+/// What a crash at any moment leaves of these lines is the records with which the disk was opened, or
+/// what the same lines settle with other outcomes of their commits, in a run that makes the same first
+/// attempts, among which are all that were done by then. So every law on the commits of a run holds of
+/// what a crash leaves. It can be opened, also where the definitions alone were to be written. See
+/// docs/SHARING.md, 'What is proved'.
+pub fn crashes_leave_what_a_run_settles()
+    ensures settled { (names : List (List ℕ)) (records : List Decoded) (coming : List Outcome) (events : List Event) → LeavesARunOf names records coming events }
+    ensures opens { (names : List (List ℕ)) (records : List Decoded) (coming : List Outcome) (events : List Event) → CanBeOpened records → LeavesWhatOpens names records coming events }
+{}
+
+/// A line with a session's command is answered by a turn of this session: what the laws on commands
+/// say of turns, they say of lines. See docs/SHARING.md, 'What is proved'.
+pub fn lines_take_turns()
+    ensures { (coming : List Outcome) (w : HistoryWorld) → LinesTakeTurns coming w }
+{}

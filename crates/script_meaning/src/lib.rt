@@ -1,0 +1,14 @@
+//! What the lines of a script mean on a store: the commands of a session as a meaning of a line,
+//! its shared state and records, and laws on sessions, on single commands and on what a crash may
+//! leave. All of it is definitions and laws on them; the program is in the crates above.
+#![tactic(auto)]
+
+mod laws;
+
+pub use laws::{
+    acknowledged_records_are_left, acquires_are_answered, commands_are_answered,
+    commits_extend_the_latest, crashes_leave_what_a_run_settles, done_outcomes_change_nothing,
+    faults_are_seen, grants_have_the_latest, lines_keep_other_sessions, lines_take_turns,
+    objects_answer_as_commits, records_match, refusals_change_nothing, sessions_read_their_own,
+    text_is_told_once, views_fit,
+};

@@ -1,5 +1,0 @@
-use Rattle.script_world.proofs.Acknowledged.{leaves_all_done}
-use Rattle.script_world.proofs.laws.acknowledged_records_are_left.Goals as goal
-
-pub returns : goal.returns
-returns c = leaves_all_done

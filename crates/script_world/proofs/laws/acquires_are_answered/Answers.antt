@@ -1,5 +1,0 @@
-use Rattle.script_world.proofs.Acquiring.{acquires_are_answered}
-use Rattle.script_world.proofs.laws.acquires_are_answered.Goals as goal
-
-pub returns : goal.returns
-returns c = acquires_are_answered

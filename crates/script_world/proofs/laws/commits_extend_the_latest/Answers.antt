@@ -1,5 +1,0 @@
-use Rattle.script_world.proofs.DiskExtending.{commits_extend}
-use Rattle.script_world.proofs.laws.commits_extend_the_latest.Goals as goal
-
-pub returns : goal.returns
-returns c = commits_extend

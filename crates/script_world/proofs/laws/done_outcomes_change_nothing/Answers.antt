@@ -1,5 +1,0 @@
-use Rattle.script_world.proofs.AllDone.{as_with_none}
-use Rattle.script_world.proofs.laws.done_outcomes_change_nothing.Goals as goal
-
-pub returns : goal.returns
-returns c = as_with_none

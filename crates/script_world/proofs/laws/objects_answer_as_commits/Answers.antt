@@ -1,5 +1,0 @@
-use Rattle.script_world.proofs.Standing.{are_alike}
-use Rattle.script_world.proofs.laws.objects_answer_as_commits.Goals as goal
-
-pub returns : goal.returns
-returns c = are_alike

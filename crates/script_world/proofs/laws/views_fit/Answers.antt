@@ -1,5 +1,0 @@
-use Rattle.script_world.proofs.Opening.{always_reached}
-use Rattle.script_world.proofs.laws.views_fit.Goals as goal
-
-pub returns : goal.returns
-returns c records coming lines can = (always_reached records coming lines can).fits

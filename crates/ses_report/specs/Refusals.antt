@@ -1,0 +1,37 @@
+-- The causes for which a line is refused, each by its number and detail.
+use Rattle.std.specs.Prelude.{ℕ, List}
+use Rattle.ses_report.specs.declared.refusal.Detail.{Detail}
+use Rattle.ses_report.specs.declared.refusal.Detail.TheVariants.{Nothing, Column, One, Two, Count}
+use Rattle.ses_report.specs.declared.refusal.Refusal.{Refusal}
+
+-- 1: the line is of no form, or names an object that isn't defined
+abbrev pub no_form : Refusal
+no_form = record { number = 1; line = 0; detail = Column 1 }
+
+-- 15: the session isn't attached
+abbrev pub not_attached : Refusal
+not_attached = record { number = 15; line = 0; detail = Nothing }
+
+-- 16: the session is attached already
+abbrev pub already_attached : Refusal
+already_attached = record { number = 16; line = 0; detail = Nothing }
+
+-- 17: another session owns the object
+abbrev pub owned_by : List ℕ → List ℕ → Refusal
+owned_by object owner = record { number = 17; line = 0; detail = Two object owner }
+
+-- 18: the object's latest generation, of this number, is newer than the session's
+abbrev pub newer : List ℕ → ℕ → Refusal
+newer object number = record { number = 18; line = 0; detail = Count object number }
+
+-- 19: the session doesn't own the object
+abbrev pub not_acquired : List ℕ → Refusal
+not_acquired object = record { number = 19; line = 0; detail = One object }
+
+-- 22: the object has the last generation that can be numbered
+abbrev pub full : List ℕ → Refusal
+full object = record { number = 22; line = 0; detail = One object }
+
+-- 30: the disk failed in a commit
+abbrev pub disk_fault : Refusal
+disk_fault = record { number = 30; line = 0; detail = Nothing }

@@ -1,0 +1,100 @@
+ghost use Rattle.std.specs.Prelude.{◌≡◌};
+ghost use Rattle.ses_report.specs.Refusals as spec;
+
+use aw_cell::Text;
+
+/// What a refusal says beside its number (docs/LANGUAGE.md, "Refusals").
+#[derive(Clone, Copy, Debug, PartialEq, Eq)]
+pub enum Detail {
+    /// No more than the number.
+    Nothing,
+    /// A column of the line, from 1.
+    Column(u32),
+    /// An object, by its name.
+    One(Text),
+    /// An object and the session that owns it, both by their names.
+    Two(Text, Text),
+    /// An object, by its name, and the number of its latest generation.
+    Count(Text, u64),
+}
+
+/// Why a line is refused: the number of the cause, the line of a block at which it stands, and its
+/// detail (docs/LANGUAGE.md, "Refusals").
+#[derive(Clone, Copy, Debug, PartialEq, Eq)]
+pub struct Refusal {
+    /// The number of the cause, from 1 to 30.
+    pub number: u8,
+    /// The line of the block, its first line being 1; 0 outside a block.
+    pub line: u32,
+    pub detail: Detail,
+}
+
+impl Refusal {
+    /// A refusal outside a block.
+    fn of(number: u8, detail: Detail) -> Refusal
+        ensures { result ≡ record { number = number; line = 0; detail = detail } }
+    {
+        Refusal {
+            number,
+            line: 0,
+            detail,
+        }
+    }
+
+    /// Refusal 1: the line is of no form, or names an object that isn't defined. The detail is
+    /// column 1.
+    pub fn no_form() -> Refusal
+        ensures { result ≡ spec.no_form }
+    {
+        Refusal::of(1, Detail::Column(1))
+    }
+
+    /// Refusal 15: the session isn't attached.
+    pub fn not_attached() -> Refusal
+        ensures { result ≡ spec.not_attached }
+    {
+        Refusal::of(15, Detail::Nothing)
+    }
+
+    /// Refusal 16: the session is attached already.
+    pub fn already_attached() -> Refusal
+        ensures { result ≡ spec.already_attached }
+    {
+        Refusal::of(16, Detail::Nothing)
+    }
+
+    /// Refusal 17: another session, the owner, owns the object. Both are given by their names.
+    pub fn owned_by(object: Text, owner: Text) -> Refusal
+        ensures { result ≡ spec.owned_by object owner }
+    {
+        Refusal::of(17, Detail::Two(object, owner))
+    }
+
+    /// Refusal 18: the object's latest generation is newer than the session's, and has this number.
+    pub fn newer(object: Text, number: u64) -> Refusal
+        ensures { result ≡ spec.newer object number }
+    {
+        Refusal::of(18, Detail::Count(object, number))
+    }
+
+    /// Refusal 19: the session doesn't own the object.
+    pub fn not_acquired(object: Text) -> Refusal
+        ensures { result ≡ spec.not_acquired object }
+    {
+        Refusal::of(19, Detail::One(object))
+    }
+
+    /// Refusal 22: the object has the last generation that can be numbered.
+    pub fn full(object: Text) -> Refusal
+        ensures { result ≡ spec.full object }
+    {
+        Refusal::of(22, Detail::One(object))
+    }
+
+    /// Refusal 30: the disk failed in a commit.
+    pub fn disk_fault() -> Refusal
+        ensures { result ≡ spec.disk_fault }
+    {
+        Refusal::of(30, Detail::Nothing)
+    }
+}
