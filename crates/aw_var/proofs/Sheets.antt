@@ -130,7 +130,7 @@ is_sorted-all kind (e ∷ es) sorted each =
     is_sorted-append (64 * (e.0 + 1)) (numbered (64 * e.0) e.1.1) (all_numbered es) (is_sorted-numbered (64 * e.0) e.1.1) (is_sorted-all kind es parts.1 each.1)
       (numbered-up_to (64 * (e.0 + 1)) (64 * e.0) e.1.1 (omega arith)) (all_numbered-from kind e.0 es parts.0)
 
-present-all : (es : Sheets) → list_all (λ pair. not (is_na pair.1)) (all_numbered es) ≡ true
+pub present-all : (es : Sheets) → list_all (λ pair. not (is_na pair.1)) (all_numbered es) ≡ true
 present-all [] = refl
 present-all (e ∷ es) = list_all-append (λ pair. not (is_na pair.1)) (numbered (64 * e.0) e.1.1) (all_numbered es) (present-numbered (64 * e.0) e.1.1) (present-all es)
 
@@ -165,7 +165,7 @@ find-all kind q (e ∷ es) sorted each =
           (find-numbered q (64 * e.0) (q - 64 * e.0) e.1.1 (omega arith) ∙ ap kept (get_or-eq_default e.1.1 Na {n = q - 64 * e.0} (omega arith)))
     ] (ranked (q / 64) e.0 (nat_cmp (q / 64) e.0) refl)
 
-unwrap_or-found_on : (sheet : Option SheetCells) (place : ℕ) → unwrap_or (found_on sheet place) Na ≡ cell_on sheet place
+pub unwrap_or-found_on : (sheet : Option SheetCells) (place : ℕ) → unwrap_or (found_on sheet place) Na ≡ cell_on sheet place
 unwrap_or-found_on None place = refl
 unwrap_or-found_on (Some sheet) place = unwrap_or-kept (get_or sheet.1 place Na)
 

@@ -5,6 +5,7 @@
 mod fault;
 mod laws;
 mod numbered;
+mod patching;
 mod sheet;
 mod variable;
 mod walk;

@@ -13,6 +13,7 @@ use std::marker::Model;
 
 use crate::fault::VarFault;
 use crate::numbered::Numbered;
+use crate::patching::keep_range;
 
 /// Which cells a variable changes: each key with its new cell, or NA where the cell is taken away; the
 /// keys rise (docs/SHARING.md, "Patches").
@@ -48,14 +49,6 @@ fn number_of(at: &Coord) -> u128
     ensures slots { AreSlots at.now }
 {
     keep_range(at.slots(), at.pack())
-}
-
-fn keep_range(slots: &[u16], number: u128) -> u128
-    ensures same { result ≡ number }
-    ensures slots { AreSlots slots.now }
-{
-    let _ = slots.len();
-    number
 }
 
 impl Variable {
