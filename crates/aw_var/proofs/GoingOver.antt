@@ -176,3 +176,23 @@ fewer olds news olds' news' page None None least old new = absurd (one (first_pa
         let f' : x ≡ page → ⊥ = λ s. f (ap (λ (n : ℕ). Some n) s) in
         let g' : y ≡ page → ⊥ = λ s. g (ap (λ (n : ℕ). Some n) s) in
         omega arith
+
+pub differs : (b : Bool) → true ≡ not b → b ≡ false
+differs true e = cc
+differs false e = refl
+
+pub is_same : (b : Bool) → false ≡ not b → b ≡ true
+is_same true e = refl
+is_same false e = cc
+
+pub left_begin : (kind kind' : Kind) (slots : ℕ) (olds news olds' news' : Sheets) (items : Cells) (a b : NumberedMap) → olds' ≡ olds → news' ≡ news → items ≡ [] →
+    AreSheets kind news → AreSheets kind' olds → shown kind news ≡ b → shown kind' olds ≡ a → b.kind ≡ a.kind →
+    AreNumbersOf slots a.cells → AreNumbersOf slots b.cells → Left b.kind slots olds' news' items a.cells b.cells
+left_begin kind kind' slots olds news olds' news' items a b e f none h g is was same under over =
+    let first : Left b.kind slots olds news [] a.cells b.cells = subst (λ (k : Kind). Left k slots olds news [] a.cells b.cells) (ap (λ (m : NumberedMap). m.kind) is) (left_first kind kind' slots olds news a b h g is was same under over) in
+    let second : Left b.kind slots olds' news [] a.cells b.cells = subst (λ (s : Sheets). Left b.kind slots s news [] a.cells b.cells) (sym e) first in
+    let third : Left b.kind slots olds' news' [] a.cells b.cells = subst (λ (s : Sheets). Left b.kind slots olds' s [] a.cells b.cells) (sym f) second in
+    subst (λ (xs : Cells). Left b.kind slots olds' news' xs a.cells b.cells) (sym none) third
+
+pub lesser_is : (page : Option ℕ) (x y x' y' : Option ℕ) → page ≡ lesser_of x y → x ≡ x' → y ≡ y' → page ≡ lesser_of x' y'
+lesser_is page x y x' y' e f g = e ∙ (λ i. lesser_of (f i) (g i))

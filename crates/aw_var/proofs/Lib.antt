@@ -8,3 +8,4 @@ pub mod Blank
 pub mod Digits
 pub mod SheetDifferences
 pub mod GoingOver
+pub mod SameSheets

@@ -1,5 +1,5 @@
 -- Coordinates in place of their packed numbers: what is found and what each change makes of a map stays the same.
-use Rattle.std.proofs.Common.{◌≡◌, ℕ, zero, suc, ◌+◌, ◌-◌, ◌*◌, ◌/◌, ◌%◌, ◌^◌, ◌<◌, ◌≤◌, Bool, true, false, cond, not, ◌&&◌, ◌||◌, ◌==◌, List, [], ◌∷◌, map, length, get_or, Option, Some, None, unwrap_or, refl, sym, ap, subst, ◌∙◌, arith, IsTrue, Ordering, Less, Equal, Greater, Result, Ok, Err, OnOk, OnErr}
+use Rattle.std.proofs.Common.{◌≡◌, ℕ, zero, suc, ◌+◌, ◌-◌, ◌*◌, ◌/◌, ◌%◌, ◌^◌, ◌<◌, ◌≤◌, Bool, true, false, cond, not, ◌&&◌, ◌||◌, ◌==◌, List, [], ◌∷◌, map, length, get_or, Option, Some, None, unwrap_or, refl, sym, ap, subst, ◌∙◌, arith, IsTrue, Ordering, Less, Equal, Greater, Result, Ok, Err, OnOk, OnErr, IfOk}
 use Rattle.std.proofs.Math.Nat.{pow-suc, mod-lt, div-lt_iff_lt-mul}
 use Rattle.std.proofs.lemmas.Nat.{div-add-mod'}
 use Rattle.std.specs.List.{list_all, list_any, filter, All}
@@ -233,3 +233,21 @@ pages-key slots key cell old now each size numbers is =
     sym (pages-coords slots (set_of old.cells (packed key) cell) (AreNumbersOf-set slots key cell old.cells each size numbers).below)
     ∙ ap page_count (set-key slots key cell old.cells each size numbers)
     ∙ ap (λ (c : Contents). page_count (set_at c.cells key cell)) is
+
+pub kinds : (slots slots' : ℕ) (one other : NumberedMap) (a b : Contents) → contents slots one.kind one.cells ≡ a → contents slots' other.kind other.cells ≡ b → a.kind ≡ b.kind → one.kind ≡ other.kind
+kinds slots slots' one other a b is was same = ap (λ (c : Contents). c.kind) is ∙ same ∙ ap (λ (c : Contents). c.kind) (sym was)
+
+pub numbers-as : (slots slots' : ℕ) (one other : NumberedMap) (a b : Contents) → contents slots one.kind one.cells ≡ a → contents slots' other.kind other.cells ≡ b → a.slots ≡ b.slots → AreNumbersOf slots' other.cells → AreNumbersOf slots other.cells
+numbers-as slots slots' one other a b is was same numbers =
+    let e : slots ≡ slots' = ap (λ (c : Contents). c.slots) is ∙ same ∙ ap (λ (c : Contents). c.slots) (sym was) in
+    subst (λ n. AreNumbersOf n other.cells) (sym e) numbers
+
+-- what two variables differ in, from their numbered cells
+pub difference-after : (slots slots' : ℕ) (one other : NumberedMap) (a b : Contents) (r : Result Cells AllocError) → contents slots one.kind one.cells ≡ a → contents slots' other.kind other.cells ≡ b → a.slots ≡ b.slots →
+    AreNumbersOf slots one.cells → AreNumbersOf slots' other.cells → IfOk r (λ patch. patch ≡ with_coords slots (difference_of other.cells one.cells)) → IfOk r (λ patch. patch ≡ difference b.cells a.cells)
+difference-after slots slots' one other a b (Ok patch) is was same f g ok =
+    let e : slots ≡ slots' = ap (λ (c : Contents). c.slots) is ∙ same ∙ ap (λ (c : Contents). c.slots) (sym was) in
+    let h = numbers-as slots slots' one other a b is was same g in
+    ok ∙ sym (difference-coords slots other.cells one.cells h.below f.below)
+    ∙ (λ i. difference ((ap (λ n. with_coords n other.cells) e ∙ ap (λ (c : Contents). c.cells) was) i) (is i).cells)
+difference-after slots slots' one other a b (Err e) is was same f g ok = tt

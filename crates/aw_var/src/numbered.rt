@@ -186,4 +186,11 @@ impl Numbered {
         }
         Ok(List::from_vec(patch))
     }
+
+    /// Whether two maps are of one kind with the same cells.
+    pub fn is_same(&self, other: &Numbered) -> bool
+        ensures { IsTrue result ↔ (self.now ≡ other.now) }
+    {
+        self.kind == other.kind && self.sheets == other.sheets
+    }
 }

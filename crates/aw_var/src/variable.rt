@@ -123,6 +123,16 @@ impl Variable {
         self.cells.put(number_of(at), cell)
     }
 
+    /// What makes this variable of an older one with keys as long and cells of its kind: the keys at
+    /// which they differ, in rising order, with the cells here, NA where only the older one has a cell.
+    pub fn patch_since(&self, older: &Variable) -> Result<Patch, AllocError>
+        requires slots { self.now.slots ≡ older.now.slots }
+        requires kind { self.now.kind ≡ older.now.kind }
+        ensures { IfOk result (λ patch. patch ≡ difference older.now.cells self.now.cells) }
+    {
+        self.cells.patch_since(&older.cells, self.slots)
+    }
+
     /// An equal variable.
     pub fn copied(&self) -> Result<Variable, AllocError>
         ensures { IfOk result (λ copy. copy ≡ self.now) }
