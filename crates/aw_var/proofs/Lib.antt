@@ -5,3 +5,8 @@ pub mod Puts
 pub mod Unpacking
 pub mod PageCounts
 pub mod Blank
+pub mod Digits
+pub mod SheetDifferences
+pub mod GoingOver
+pub mod SameSheets
+pub mod Valid

@@ -5,6 +5,7 @@
 mod fault;
 mod laws;
 mod numbered;
+mod patching;
 mod sheet;
 mod variable;
 mod walk;
@@ -14,3 +15,6 @@ pub use laws::{
     composed_does_both, difference_gives_newer, difference_tells_apart, overwritten_is_map,
 };
 pub use variable::{Patch, Variable};
+
+#[cfg(test)]
+mod tests;

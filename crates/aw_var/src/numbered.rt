@@ -2,15 +2,18 @@ ghost use Rattle.std.specs.Prelude.{◌≡◌, ◌<◌, ◌≢◌, ◌↔◌, �
 ghost use Rattle.aw_page.specs.Fitting.{is_of_kind};
 ghost use Rattle.aw_cell.specs.declared.cell.Cell.TheVariants.{Na};
 ghost use Rattle.std.specs.BTreeMap.{IsUnchanged};
-ghost use Rattle.aw_var.specs.inside.NumberedMap.{cell_of, set_of, difference_of};
+ghost use Rattle.aw_var.specs.inside.NumberedMap.{cell_of, set_of, difference_of, IsNumberedMap};
+ghost use Rattle.aw_var.specs.inside.Unpacking.{with_coords, AreNumbersOf};
 ghost use Rattle.aw_var.specs.inside.Sheets.{PutsCell, number_pages, AreSheets};
 
+use crate::patching::{lesser, push_changes};
+use crate::sheet::Sheet;
+use crate::walk::Walk;
 use aw_cell::{Cell, Kind};
+use aw_lists::{Coord, List};
 use std::alloc::{AllocError, Global};
 use std::collections::BTreeMap;
 use std::marker::Model;
-
-use crate::sheet::Sheet;
 
 /// A finite map from packed keys to cells of one kind that aren't NA, in sheets of 64 by `number / 64`.
 #[derive(Drop)]
@@ -135,7 +138,8 @@ impl Numbered {
 
     /// Whether it has no cell.
     pub fn is_empty(&self) -> bool
-        ensures { IsTrue result ↔ (self.now.cells ≡ []) }
+        ensures empty { IsTrue result ↔ (self.now.cells ≡ []) }
+        ensures valid { IsNumberedMap self.now }
     {
         self.sheets.is_empty()
     }
@@ -162,5 +166,35 @@ impl Numbered {
             None if *cell == Cell::Na => count,
             None => count + 1,
         }
+    }
+
+    /// What makes this map of an older one of its kind, with keys of so many slots in place of their
+    /// numbers.
+    pub fn patch_since(
+        &self,
+        older: &Numbered,
+        slots: u8,
+    ) -> Result<List<(Coord, Cell)>, AllocError>
+        requires kind { self.now.kind ≡ older.now.kind }
+        requires numbers { AreNumbersOf slots self.now.cells }
+        requires older_numbers { AreNumbersOf slots older.now.cells }
+        ensures { IfOk result (λ patch. patch ≡ with_coords slots (difference_of older.now.cells self.now.cells)) }
+    {
+        let mut patch = Vec::new(self.alloc);
+        let mut ours = Walk::new(&self.sheets);
+        let mut theirs = Walk::new(&older.sheets);
+        'pages: while let Some(page) = lesser(ours.page(), theirs.page()) {
+            let now = ours.take_at(page);
+            let before = theirs.take_at(page);
+            push_changes(&mut patch, slots, page, before, now)?;
+        }
+        Ok(List::from_vec(patch))
+    }
+
+    /// Whether two maps are of one kind with the same cells.
+    pub fn is_same(&self, other: &Numbered) -> bool
+        ensures { IsTrue result ↔ (self.now ≡ other.now) }
+    {
+        self.kind == other.kind && self.sheets == other.sheets
     }
 }

@@ -155,6 +155,27 @@ impl Clone for Sheet {
     }
 }
 
+impl PartialEq for Sheet {
+    ghost use Rattle.std.specs.Prelude.{◌≡◌, ◌&&◌};
+    ghost use Rattle.std.specs.Bool.{beq};
+    ghost use Rattle.std.specs.Cmp.{and_per, on_per, partial_equiv_from_equiv, decided, booleans_Decides};
+    ghost use Rattle.std.specs.Cmp.Lexicographic.{pointwise, lists_per};
+    ghost use Rattle.aw_cell.specs.Cell.{same_cell};
+    ghost use Rattle.aw_cell.specs.SameCell.{same_cell_partial_equivalence};
+
+    ghost eq = { λ one other. beq one.0 other.0 && pointwise same_cell one.1 other.1 };
+
+    ghost laws = { and_per (on_per (λ s. s.0) (partial_equiv_from_equiv (decided beq booleans_Decides))) (on_per (λ s. s.1) (lists_per same_cell_partial_equivalence)) };
+
+    fn eq(&self, other: &Sheet) -> bool {
+        match (&self.page, &other.page) {
+            (Shared::Plain(one), Shared::Plain(other)) => **one == **other,
+            (Shared::Text(one), Shared::Text(other)) => **one == **other,
+            _ => false,
+        }
+    }
+}
+
 /// The cell at a place of a sheet, NA where there is no sheet.
 pub fn cell_in(sheet: Option<&Sheet>, at: u8) -> Cell
     requires { at < 64 }

@@ -6,18 +6,17 @@ ghost use Rattle.aw_var.specs.CellPatch.{difference};
 ghost use Rattle.aw_var.specs.Pages.{page_count, HasNoPage, ArePageCells};
 ghost use Rattle.aw_var.specs.Variable.{IsVariable};
 
+use crate::fault::VarFault;
+use crate::numbered::Numbered;
+use crate::patching::keep_range;
 use aw_cell::{Cell, Kind};
 use aw_lists::{Coord, List};
 use std::alloc::{AllocError, Global};
 use std::marker::Model;
 
-use crate::fault::VarFault;
-use crate::numbered::Numbered;
-
 /// Which cells a variable changes: each key with its new cell, or NA where the cell is taken away; the
 /// keys rise (docs/SHARING.md, "Patches").
 pub type Patch = List<(Coord, Cell)>;
-
 
 /// The most pages that the cells of a variable lie on where they are set one by one.
 const MOST_PAGES: usize = 65_536;
@@ -48,14 +47,6 @@ fn number_of(at: &Coord) -> u128
     ensures slots { AreSlots at.now }
 {
     keep_range(at.slots(), at.pack())
-}
-
-fn keep_range(slots: &[u16], number: u128) -> u128
-    ensures same { result ≡ number }
-    ensures slots { AreSlots slots.now }
-{
-    let _ = slots.len();
-    number
 }
 
 impl Variable {
@@ -130,6 +121,24 @@ impl Variable {
         self.cells.put(number_of(at), cell)
     }
 
+    /// What makes this variable of an older one with keys as long and cells of its kind: the keys at
+    /// which they differ, in rising order, with the cells here, NA where only the older one has a cell.
+    pub fn patch_since(&self, older: &Variable) -> Result<Patch, AllocError>
+        requires slots { self.now.slots ≡ older.now.slots }
+        requires kind { self.now.kind ≡ older.now.kind }
+        ensures { IfOk result (λ patch. patch ≡ difference older.now.cells self.now.cells) }
+    {
+        self.cells.patch_since(&older.cells, self.slots)
+    }
+
+    /// Whether every cell is NA. What holds of every variable is told here too.
+    pub fn is_empty(&self) -> bool
+        ensures empty { IsTrue result ↔ (self.now.cells ≡ []) }
+        ensures valid { IsVariable self.now }
+    {
+        self.cells.is_empty()
+    }
+
     /// An equal variable.
     pub fn copied(&self) -> Result<Variable, AllocError>
         ensures { IfOk result (λ copy. copy ≡ self.now) }
@@ -139,4 +148,26 @@ impl Variable {
             cells: self.cells.copied()?,
         })
     }
+}
+
+impl PartialEq for Variable {
+    ghost use Rattle.std.specs.Prelude.{◌≡◌, ◌↔◌, IsTrue};
+    ghost use Rattle.aw_var.specs.SameContents.{same_contents, same_contents_partial_equivalence};
+
+    ghost eq = { same_contents };
+
+    ghost laws = { same_contents_partial_equivalence };
+
+    fn eq(&self, other: &Variable) -> bool
+        ensures same { result ≡ same_contents self.now other.now }
+        ensures equal { IsTrue result ↔ (self.now ≡ other.now) }
+    {
+        self.slots == other.slots && self.cells.is_same(&other.cells)
+    }
+}
+
+impl Eq for Variable {
+    ghost use Rattle.aw_var.specs.SameContents.{same_contents_equivalence};
+
+    ghost laws = { same_contents_equivalence };
 }
