@@ -236,7 +236,8 @@ impl Dimension {
         let Some(place) = self.place(slot) else {
             return Err(DimFault::NoValue);
         };
-        if self.slot_of(&name).is_some() {
+        let taken = self.slot_of(&name).is_some();
+        if taken {
             return Err(DimFault::Duplicate);
         }
         let (entries, places) = (&mut self.entries, self.places.as_slice());
