@@ -1,15 +1,14 @@
 -- The first byte of a token tells its form.
-use Rattle.std.proofs.Common.{◌≡◌, ◌≤◌, ◌<◌, ◌*◌, ◌==◌, ℕ, zero, suc, ◌∙◌, refl, ap, sym, arith, true, false, not, Bool, cond, ◌&&◌, List, [], ◌∷◌, ◌++◌, length, take, map}
-use Rattle.std.specs.Prelude.{IsTrue, nat_le}
+use Rattle.std.proofs.Common.{◌≡◌, ◌<◌, ◌*◌, ◌==◌, ℕ, zero, suc, ◌∙◌, refl, ap, sym, arith, true, false, not, Bool, cond, ◌&&◌, List, [], ◌∷◌, ◌++◌, length, take, map}
+use Rattle.std.specs.Prelude.{nat_le}
 use Rattle.std.specs.Char.{is_ascii_digit}
 use Rattle.std.specs.List.{list_all, list_any}
-use Rattle.std.proofs.lemmas.Bool.{and_parts, eq-eqb, eqb-true}
+use Rattle.std.proofs.lemmas.Bool.{and_parts, eq-eqb}
 use Rattle.std.proofs.lemmas.Bool.Decides.{nat_tests}
-use Rattle.aw_cell.specs.Names.{is_letter, is_name, is_name_byte, has_name_form, begins_with, same_word, reserved_words}
+use Rattle.aw_cell.specs.Names.{is_letter, is_name_byte, has_name_form, begins_with, same_word, reserved_words}
 use Rattle.aw_cell.specs.Numeral.{are_digits, pointed, SpellsSize}
-use Rattle.dml_tree.specs.Words.{SpellsWord}
-use Rattle.dml_tree.specs.Spelling.{symbol_byte, escaped, space_for_tab, SpellsText, SpellsInteger, SpellsWhole, SpellsDecimal, Spells, HasForm, named, counted, quoted, signed}
-use Rattle.dml_tree.specs.LineTokens.{is_blank, Stands}
+use Rattle.dml_tree.specs.Spelling.{symbol_byte, space_for_tab, SpellsText, Spells, HasForm, named, counted, quoted, signed}
+use Rattle.dml_tree.specs.LineTokens.{Stands}
 use Rattle.dml_tree.specs.declared.token.Symbol.{Symbol}
 use Rattle.dml_tree.specs.declared.token.Symbol.TheVariants.{Equals, Open, Close, Comma, Less, Greater, Plus, Minus, Star, Slash}
 use Rattle.dml_tree.specs.declared.token.Lexeme.{Lexeme}

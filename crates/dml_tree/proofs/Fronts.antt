@@ -1,5 +1,5 @@
 -- The elements at the front of a list that pass a test.
-use Rattle.std.proofs.Common.{◌≡◌, ◌≤◌, ◌<◌, ◌+◌, ℕ, zero, suc, ◌∙◌, refl, ap, sym, arith, true, false, Bool, cond, List, [], ◌∷◌, ◌++◌, length, take, drop, length-take-le, zero-add}
+use Rattle.std.proofs.Common.{◌≡◌, ◌≤◌, ◌+◌, ℕ, zero, suc, refl, ap, sym, arith, true, false, Bool, cond, List, [], ◌∷◌, ◌++◌, length, take, zero-add}
 use Rattle.std.specs.List.{list_all, prefix_len}
 use Rattle.std.proofs.lemmas.Bool.{and_parts}
 

@@ -1,12 +1,10 @@
 -- Going through a line: blanks, tokens, and its end.
-use Rattle.std.proofs.Common.{◌≡◌, ◌≢◌, ◌≤◌, ◌<◌, ◌+◌, ◌-◌, ◌^◌, ◌==◌, ◌||◌, ℕ, zero, suc, ◌∙◌, refl, ap, sym, subst, arith, true, false, Bool, List, [], ◌∷◌, ◌++◌, length, take, drop, get_or, drop-cons, length-drop, eq-eqb, ne_eqb}
-use Rattle.std.specs.Prelude.{IsTrue}
+use Rattle.std.proofs.Common.{◌≡◌, ◌≢◌, ◌≤◌, ◌<◌, ◌+◌, ◌-◌, ℕ, ◌∙◌, refl, ap, sym, subst, arith, false, List, [], ◌∷◌, ◌++◌, length, take, drop, get_or, drop-cons, length-drop, eq-eqb, ne_eqb}
 use Rattle.std.specs.List.{list_all, prefix_len}
 use Rattle.std.proofs.lemmas.List.{drop_all, get_or-drop, take_rest}
 use Rattle.std.proofs.lemmas.List.Sums.{prefix_len-le-length, prefix_len_stops}
 use Rattle.dml_tree.specs.LineTokens.{is_blank, IsNext, AreBlanks, Stands, HasEnded, ComesNext, Follow, AreTokens, HasFault, end_token}
 use Rattle.dml_tree.specs.inside.Scanning.{NoneIsNext, EndsFrom, StandsAt}
-use Rattle.dml_tree.specs.declared.token.Lexeme.{Lexeme}
 use Rattle.dml_tree.specs.declared.token.Token.{Token}
 use Rattle.dml_tree.proofs.Fronts.{prefix_len-part}
 

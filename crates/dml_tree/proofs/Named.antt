@@ -1,14 +1,14 @@
 -- Names and words are the longest tokens at their place.
-use Rattle.std.proofs.Common.{◌≡◌, ◌≤◌, ◌<◌, ◌+◌, ℕ, zero, suc, ◌∙◌, refl, ap, sym, subst, arith, true, false, not, Bool, cond, ◌&&◌, ◌||◌, List, [], ◌∷◌, ◌++◌, length, take, length-take-le}
-use Rattle.std.specs.Prelude.{IsTrue, nat_le, min, Option, Some, None}
+use Rattle.std.proofs.Common.{◌≡◌, ◌≤◌, ◌<◌, ◌+◌, ℕ, ◌∙◌, refl, ap, sym, arith, true, false, Bool, cond, ◌&&◌, ◌||◌, List, [], ◌∷◌, length, take, length-take-le}
+use Rattle.std.specs.Prelude.{IsTrue, nat_le, Some, None}
 use Rattle.std.specs.List.{list_all, list_any, prefix_len, position_from}
 use Rattle.std.proofs.lemmas.Bool.{and_parts, leb-true, le-leb}
 use Rattle.std.proofs.lemmas.Bool.Decides.{nat_tests}
 use Rattle.std.proofs.lemmas.List.{length-take}
 use Rattle.std.proofs.lemmas.List.Sums.{prefix_len-le-length}
 use Rattle.aw_cell.specs.Names.{is_letter, is_name, is_name_byte, has_name_form, begins_with, same_word, reserved_words}
-use Rattle.dml_tree.specs.Words.{word_place, SpellsWord}
-use Rattle.dml_tree.specs.Spelling.{Spells, HasForm}
+use Rattle.dml_tree.specs.Words.{word_place}
+use Rattle.dml_tree.specs.Spelling.{Spells}
 use Rattle.dml_tree.specs.LineTokens.{IsNext}
 use Rattle.dml_tree.specs.declared.token.Lexeme.{Lexeme}
 use Rattle.dml_tree.proofs.Fronts.{prefix_len-covers, prefix_len-part, take-take}

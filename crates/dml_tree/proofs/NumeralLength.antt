@@ -2,7 +2,7 @@
 use Rattle.std.proofs.Common.{◌≡◌, ◌≤◌, ◌<◌, ◌+◌, ℕ, zero, suc, ◌∙◌, refl, ap, sym, arith, true, false, not, Bool, cond, ◌&&◌, ◌==◌, List, [], ◌∷◌, ◌++◌, length, take, drop, append-nil, append_assoc, length-append, length-take-le, ne_eqb, lt-ltb, add-zero, eqb-true}
 use Rattle.std.specs.Prelude.{nat_lt, min}
 use Rattle.std.specs.Char.{is_ascii_digit}
-use Rattle.std.specs.List.{list_all, prefix_len}
+use Rattle.std.specs.List.{prefix_len}
 use Rattle.std.proofs.Math.Seq.{take-add, drop-append_seam}
 use Rattle.std.proofs.lemmas.List.{take-append-drop, length-drop, length-take}
 use Rattle.std.proofs.lemmas.List.Folds.{list_all-append, length-prefix_len}

@@ -1,6 +1,6 @@
 -- Numerals are the longest tokens at their place, where they are in range.
-use Rattle.std.proofs.Common.{◌≡◌, ◌≤◌, ◌<◌, ◌+◌, ◌*◌, ◌/◌, ◌^◌, ℕ, zero, suc, ◌∙◌, refl, ap, sym, subst, arith, true, false, not, Bool, cond, List, [], ◌∷◌, ◌++◌, length, take, drop, ◌-◌, length-take-le, if◌then◌else◌, ℤ, ⊎_elim}
-use Rattle.std.specs.Prelude.{pos, nat_lt, nat_le, unsigned_abs, Result, Ok, Err, ◌↔◌}
+use Rattle.std.proofs.Common.{◌≡◌, ◌≤◌, ◌<◌, ◌+◌, ◌*◌, ◌/◌, ℕ, ◌∙◌, refl, ap, sym, subst, arith, true, false, not, Bool, cond, List, [], ◌∷◌, ◌++◌, length, take, drop, ◌-◌, length-take-le, if◌then◌else◌, ℤ, ⊎_elim}
+use Rattle.std.specs.Prelude.{pos, nat_lt, nat_le}
 use Rattle.std.specs.Char.{is_ascii_digit}
 use Rattle.std.specs.Str.Parse.{digits_value}
 use Rattle.std.proofs.lemmas.Int.{ints}
@@ -10,14 +10,13 @@ use Rattle.aw_cell.specs.Names.{begins_with}
 use Rattle.aw_cell.specs.Number.{IsInRange}
 use Rattle.aw_cell.specs.Numeral.{are_digits, pointed, ten_thousandths, SpellsSize, Spells as SpellsNumber, SpellsInRange}
 use Rattle.aw_cell.specs.Rounding.{signed}
-use Rattle.aw_cell.specs.declared.numeral.NumberFault.{NumberFault}
-use Rattle.dml_tree.specs.Spelling.{Spells, SpellsInteger, SpellsWhole, SpellsDecimal, HasForm, counted}
+use Rattle.dml_tree.specs.Spelling.{Spells, counted}
 use Rattle.dml_tree.specs.LineTokens.{IsNext}
 use Rattle.dml_tree.specs.inside.Scanning.{NoneIsNext, fraction_len, numeral_len, numeral_lexeme}
 use Rattle.dml_tree.specs.declared.token.Lexeme.{Lexeme}
 use Rattle.dml_tree.specs.declared.token.Lexeme.TheVariants as lexeme
-use Rattle.dml_tree.proofs.Forms.{is_quote, begins-take, digit_form, spelled_form, letter_no_digit, digit_no_quote, unlike, name_form, named_first, quote_first, symbol_class}
-use Rattle.dml_tree.proofs.NumeralLength.{whole_len, has_decimals, NumeralParts, numeral_parts, numeral_len-covers, numeral_len-size, numeral_len-within, numeral_len-some, whole_some, digits_alone}
+use Rattle.dml_tree.proofs.Forms.{begins-take, digit_form, spelled_form, letter_no_digit, digit_no_quote, unlike, name_form, named_first, quote_first, symbol_class}
+use Rattle.dml_tree.proofs.NumeralLength.{whole_len, NumeralParts, numeral_parts, numeral_len-covers, numeral_len-size, numeral_len-within, numeral_len-some, whole_some, digits_alone}
 
 -- ---- the value of digits alone
 

@@ -1,8 +1,8 @@
 -- A line has one list of tokens, or one first fault.
-use Rattle.std.proofs.Common.{◌≡◌, ◌≢◌, ◌≤◌, ◌<◌, ◌+◌, ◌-◌, ◌*◌, ◌/◌, ◌==◌, ◌||◌, ◌&&◌, ℕ, zero, suc, ◌∙◌, refl, ap, sym, subst, arith, true, false, not, Bool, cond, List, [], ◌∷◌, ◌++◌, length, take, drop, map, get_or, drop-cons, add-zero, ⊎_elim, append-nil, length-append, eqb-true, ℤ}
-use Rattle.std.specs.Prelude.{IsTrue, pos, Option, Some, None}
+use Rattle.std.proofs.Common.{◌≡◌, ◌≢◌, ◌≤◌, ◌<◌, ◌+◌, ◌-◌, ◌*◌, ◌==◌, ◌||◌, ℕ, ◌∙◌, refl, ap, sym, subst, arith, true, false, not, Bool, cond, List, [], ◌∷◌, ◌++◌, length, take, drop, get_or, drop-cons, add-zero, ⊎_elim, eqb-true}
+use Rattle.std.specs.Prelude.{pos, Some}
 use Rattle.std.specs.Char.{is_ascii_digit}
-use Rattle.std.specs.List.{list_all, list_any, prefix_len, position_from}
+use Rattle.std.specs.List.{list_any, prefix_len, position_from}
 use Rattle.std.proofs.Math.Seq.{take-append_seam, drop-append_seam}
 use Rattle.std.proofs.lemmas.Bool.{and_parts, cases_lt}
 use Rattle.std.proofs.lemmas.List.{get_or-drop, get_or-take, length-take, length-drop}
@@ -12,8 +12,8 @@ use Rattle.aw_cell.specs.Names.{is_letter, is_name, has_name_form, begins_with, 
 use Rattle.aw_cell.specs.Numeral.{are_digits, pointed, ten_thousandths, SpellsSize}
 use Rattle.dml_tree.specs.contracts.word.Word.{the_type}
 use Rattle.dml_tree.specs.declared.word.Word.{Word}
-use Rattle.dml_tree.specs.Words.{word_number, word_place, SpellsWord}
-use Rattle.dml_tree.specs.Spelling.{symbol_byte, escaped, space_for_tab, SpellsText, SpellsInteger, SpellsWhole, SpellsDecimal, Spells, HasForm}
+use Rattle.dml_tree.specs.Words.{word_number, word_place}
+use Rattle.dml_tree.specs.Spelling.{symbol_byte, Spells}
 use Rattle.dml_tree.specs.LineTokens.{is_blank, IsNext, AreBlanks, Stands, HasEnded, ComesNext, Follow, AreTokens, HasFault, end_token}
 use Rattle.dml_tree.specs.declared.token.Symbol.{Symbol}
 use Rattle.dml_tree.specs.declared.token.Symbol.TheVariants.{Equals, Open, Close, Comma, Less, Greater, Plus, Minus, Star, Slash}

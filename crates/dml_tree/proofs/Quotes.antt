@@ -1,5 +1,5 @@
 -- Texts are the longest tokens at their place.
-use Rattle.std.proofs.Common.{◌≡◌, ◌≤◌, ◌<◌, ◌+◌, ◌-◌, ℕ, zero, suc, ◌∙◌, refl, ap, sym, subst, arith, true, false, not, Bool, cond, ◌||◌, ◌&&◌, ◌==◌, List, [], ◌∷◌, ◌++◌, length, take, drop, map, get_or, set, append-nil, append_assoc, length-append, length-take-le, length-drop, drop-cons, eq-eqb, eqb-true, add-one}
+use Rattle.std.proofs.Common.{◌≡◌, ◌≤◌, ◌<◌, ◌+◌, ◌-◌, ℕ, suc, ◌∙◌, refl, ap, sym, subst, arith, true, false, Bool, cond, ◌||◌, ◌==◌, List, [], ◌∷◌, ◌++◌, length, take, drop, map, get_or, set, append-nil, append_assoc, length-append, length-take-le, length-drop, drop-cons, eq-eqb, eqb-true, add-one}
 use Rattle.std.specs.Prelude.{IsTrue, nat_le}
 use Rattle.std.specs.List.{list_all}
 use Rattle.std.proofs.Math.Seq.{take-add, take-suc-set}
@@ -7,7 +7,7 @@ use Rattle.std.proofs.lemmas.Bool.{and_parts, leb-true}
 use Rattle.std.proofs.lemmas.List.{take-append-drop, map-append, length-map, drop_all, take_rest}
 use Rattle.aw_cell.specs.Names.{begins_with}
 use Rattle.aw_cell.specs.Text.{is_text, is_text_byte}
-use Rattle.dml_tree.specs.Spelling.{escaped, space_for_tab, SpellsText, Spells, HasForm}
+use Rattle.dml_tree.specs.Spelling.{escaped, space_for_tab, SpellsText, Spells}
 use Rattle.dml_tree.specs.LineTokens.{IsNext}
 use Rattle.dml_tree.specs.inside.Scanning.{NoneIsNext, IsLetter, HasNoLetter, HasRead}
 use Rattle.dml_tree.specs.declared.token.Lexeme.{Lexeme}

@@ -1,6 +1,6 @@
 -- Symbols are the longest tokens at their place.
-use Rattle.std.proofs.Common.{◌≡◌, ◌≢◌, ◌≤◌, ◌<◌, ℕ, zero, suc, ◌∙◌, refl, ap, sym, arith, true, false, Bool, List, [], ◌∷◌, length, take, length-take-le}
-use Rattle.std.specs.Prelude.{Option, Some, slice_get}
+use Rattle.std.proofs.Common.{◌≡◌, ◌≢◌, ◌≤◌, ◌<◌, ℕ, zero, suc, ◌∙◌, ap, sym, arith, false, List, [], ◌∷◌, length, take, length-take-le}
+use Rattle.std.specs.Prelude.{Some, slice_get}
 use Rattle.std.specs.Char.{is_ascii_digit}
 use Rattle.aw_cell.specs.Names.{is_letter, begins_with}
 use Rattle.dml_tree.specs.Spelling.{symbol_byte, HasForm}

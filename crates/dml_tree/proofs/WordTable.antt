@@ -1,6 +1,6 @@
 -- The table of the words has the reserved words, each behind its number.
-use Rattle.std.proofs.Common.{◌≡◌, ◌+◌, ℕ, ◌∙◌, refl, ap, sym, true, false, Bool, cond, ◌&&◌, List, [], ◌∷◌, map}
-use Rattle.std.specs.Prelude.{nat_eq, Option, Some, None, option_map}
+use Rattle.std.proofs.Common.{◌≡◌, ◌+◌, ℕ, ◌∙◌, refl, ap, true, false, Bool, cond, ◌&&◌, List, [], ◌∷◌, map}
+use Rattle.std.specs.Prelude.{nat_eq, Some, option_map}
 use Rattle.std.specs.List.{position_from}
 use Rattle.std.proofs.lemmas.Bool.{and_parts, eqb-true}
 use Rattle.aw_cell.specs.Names.{same_word, reserved_words}

@@ -1,5 +1,5 @@
 -- Laws on the tokens of a line, over every line.
-use Rattle.std.specs.Prelude.{ℕ, ◌≡◌, ◌-◌, ◌≤◌, ◌<◌, ◌++◌, Bool, false, List, [], ◌∷◌, length, take, drop, IsTrue}
+use Rattle.std.specs.Prelude.{ℕ, ◌≡◌, ◌-◌, ◌≤◌, ◌<◌, ◌++◌, false, List, [], ◌∷◌, length, take, drop, IsTrue}
 use Rattle.aw_cell.specs.Names.{is_name, has_name_form, same_word}
 use Rattle.dml_tree.specs.Words.{SpellsWord}
 use Rattle.dml_tree.specs.Spelling.{Spells}

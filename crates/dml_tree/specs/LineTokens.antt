@@ -1,5 +1,5 @@
 -- The tokens of a line, and its first fault.
-use Rattle.std.specs.Prelude.{ℕ, ◌≡◌, ◌+◌, ◌-◌, ◌≤◌, ◌<◌, ◌==◌, ◌||◌, ◌⊎◌, Bool, false, List, [], ◌∷◌, ◌++◌, length, take, drop, IsTrue}
+use Rattle.std.specs.Prelude.{ℕ, ◌≡◌, ◌+◌, ◌-◌, ◌≤◌, ◌<◌, ◌==◌, ◌||◌, Bool, false, List, [], ◌∷◌, ◌++◌, length, take, drop, IsTrue}
 use Rattle.std.specs.List.{list_all}
 use Rattle.dml_tree.specs.Spelling.{Spells, HasForm}
 use Rattle.dml_tree.specs.declared.token.Lexeme.{Lexeme}

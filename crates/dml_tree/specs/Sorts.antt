@@ -1,9 +1,8 @@
 -- The sort of a token: which rule of the grammar it fits.
-use Rattle.std.specs.Prelude.{ℕ, ℤ, ◌+◌, Bool, nat_eq, Option, Some, None, unsigned_abs, ◌/◌}
+use Rattle.std.specs.Prelude.{ℕ, ◌+◌, Bool, nat_eq, Option, Some, None, unsigned_abs, ◌/◌}
 use denote.Enum.Declared.{tag_of}
 use Rattle.dml_tree.specs.Words.{word_number}
 use Rattle.dml_tree.specs.contracts.token.Symbol.{the_type}
-use Rattle.dml_tree.specs.declared.token.Symbol.{Symbol}
 use Rattle.dml_tree.specs.declared.token.Lexeme.{Lexeme}
 use Rattle.dml_tree.specs.declared.token.Lexeme.TheVariants as lexeme
 use Rattle.dml_tree.specs.declared.token.Sort.{Sort}

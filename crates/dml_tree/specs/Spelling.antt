@@ -1,5 +1,5 @@
 -- How each token is spelled.
-use Rattle.std.specs.Prelude.{ℕ, ℤ, pos, ◌≡◌, ◌≤◌, ◌<◌, ◌*◌, ◌==◌, ◌||◌, Bool, false, cond, List, [], ◌∷◌, ◌++◌, map, IsTrue}
+use Rattle.std.specs.Prelude.{ℕ, ℤ, pos, ◌≡◌, ◌≤◌, ◌<◌, ◌*◌, ◌==◌, ◌||◌, false, cond, List, [], ◌∷◌, ◌++◌, map, IsTrue}
 use Rattle.aw_cell.specs.Names.{is_name, has_name_form}
 use Rattle.aw_cell.specs.Number.{IsInRange}
 use Rattle.aw_cell.specs.Numeral.{are_digits, SpellsSize}

@@ -1,4 +1,4 @@
-use Rattle.std.proofs.Common.{◌≡◌, ◌+◌, ◌-◌, ℕ, List, [], ◌∷◌, length, length-drop, take, drop, sym, subst, arith}
+use Rattle.std.proofs.Common.{◌≡◌, ◌-◌, ℕ, List, [], ◌∷◌, length-drop, take, drop, subst, arith}
 use Rattle.dml_tree.specs.Spelling.{Spells}
 use Rattle.dml_tree.specs.LineTokens.{ComesNext, Follow}
 use Rattle.dml_tree.specs.Laws.{IsPlaced, ArePlaced}

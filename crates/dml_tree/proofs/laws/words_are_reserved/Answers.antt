@@ -1,9 +1,8 @@
-use Rattle.std.proofs.Common.{◌≡◌, ◌+◌, ◌∙◌, ℕ, Bool, true, false, cond, List, [], ◌∷◌, ap, sym, refl}
-use Rattle.std.specs.Prelude.{Some, Option}
+use Rattle.std.proofs.Common.{◌≡◌, ◌∙◌, ℕ, List, ap}
 use Rattle.std.specs.Str.{bytes_eq}
 use Rattle.std.specs.List.{position_from}
 use Rattle.std.proofs.lemmas.Slice.Eq.{bytes_eq-Decides}
-use Rattle.aw_cell.specs.Names.{is_name, lowercase, same_word, reserved_words}
+use Rattle.aw_cell.specs.Names.{is_name, lowercase, reserved_words}
 use Rattle.dml_tree.specs.Words.{word_place}
 use Rattle.dml_tree.proofs.Once.{word_no_name, never}
 use Rattle.dml_tree.proofs.laws.words_are_reserved.Goals as goal

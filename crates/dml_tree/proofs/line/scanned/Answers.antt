@@ -1,4 +1,4 @@
-use Rattle.std.proofs.Common.{◌≡◌, ◌+◌, ℕ, List, refl, sym, subst, arith}
+use Rattle.std.proofs.Common.{◌+◌, List, refl, sym, subst}
 use Rattle.dml_tree.specs.declared.token.Token.{Token}
 use Rattle.dml_tree.proofs.LineWalk.{Walked, walked_on}
 use Rattle.dml_tree.proofs.line.scanned.Goals as goal

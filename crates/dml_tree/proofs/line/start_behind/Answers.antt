@@ -1,4 +1,3 @@
-use Rattle.std.proofs.Common.{arith}
 use Rattle.dml_tree.proofs.LineWalk.{blank_len-is, stands_at, ends_at_end, ends_at_comment}
 use Rattle.dml_tree.proofs.line.start_behind.Goals as goal
 use Rattle.dml_tree.proofs.line.start_behind.Goals.{then-start-line-via-then-start-line, then-start-line-via-else-start-line+then-line-start-eq34}

@@ -1,8 +1,6 @@
-use Rattle.std.proofs.Common.{◌≡◌, ℕ, ◌+◌, ◌∙◌, length, take, drop, sym, subst}
-use Rattle.aw_cell.specs.Numeral.{SpellsInRange}
+use Rattle.std.proofs.Common.{◌+◌, sym, subst}
 use Rattle.dml_tree.specs.LineTokens.{IsNext}
 use Rattle.dml_tree.specs.declared.token.Lexeme.{Lexeme}
-use Rattle.dml_tree.specs.inside.Scanning.{fraction_len, numeral_len}
 use Rattle.dml_tree.proofs.Numerals.{numeral_is_next, no_numeral, numeral_len-is, has_point-is, fraction-is, read_whole}
 use Rattle.dml_tree.proofs.numeral.numeral.Goals as goal
 

@@ -1,11 +1,10 @@
-use Rattle.std.proofs.Common.{◌≡◌, ◌≤◌, ◌<◌, ◌+◌, ℕ, ◌∙◌, refl, sym, subst, arith, take, List, length, length-set, true, false, Bool, ne_eqb}
-use Rattle.std.specs.Prelude.{MatchOption, Option, IsTrue}
-use Rattle.aw_cell.specs.Text.{is_text}
+use Rattle.std.proofs.Common.{◌≡◌, ◌+◌, ℕ, ◌∙◌, refl, sym, subst, arith, take, List, length-set, true, false, ne_eqb}
+use Rattle.std.specs.Prelude.{MatchOption, Option}
 use Rattle.dml_tree.specs.declared.next.Found.{Found}
 use Rattle.dml_tree.specs.declared.token.Lexeme.TheVariants as lexeme
 use Rattle.dml_tree.specs.LineTokens.{IsNext}
 use Rattle.dml_tree.specs.inside.Scanning.{NoneIsNext}
-use Rattle.dml_tree.proofs.Quotes.{LettersRead, first_read, more_read, unclosed, overlong, no_text, quoted_is_next, quote_at, no_quote_at, no_quote_behind, one_more_letter, rest_letter, rest_no_letter, full_room}
+use Rattle.dml_tree.proofs.Quotes.{first_read, more_read, unclosed, overlong, no_text, quoted_is_next, quote_at, no_quote_at, no_quote_behind, one_more_letter, rest_letter, rest_no_letter, full_room}
 use Rattle.dml_tree.proofs.quoted.quoted.Goals as goal
 use Rattle.dml_tree.proofs.quoted.quoted.Goals.{then-at-bytes-via-then-at-bytes, then-at-bytes-via-else-at-bytes+then-bytes-at-ne39}
 

@@ -1,5 +1,4 @@
-use Rattle.std.proofs.Common.{◌≡◌, ◌≤◌, ◌-◌, ℕ, List, take, length}
-use Rattle.dml_tree.specs.inside.Scanning.{HasRead}
+use Rattle.std.proofs.Common.{◌-◌, length}
 use Rattle.dml_tree.proofs.Quotes.{LettersRead}
 use Rattle.dml_tree.proofs.quoted.quoted.Given as goal
 
