@@ -4,3 +4,4 @@ pub mod Sheets
 pub mod Unpacking
 pub mod Shared
 pub mod Walks
+pub mod Differences

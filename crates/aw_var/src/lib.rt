@@ -5,9 +5,13 @@
 mod fault;
 mod laws;
 mod numbered;
+mod patching;
 mod sheet;
+mod variable;
+mod walk;
 
 pub use fault::VarFault;
 pub use laws::{
     composed_does_both, difference_gives_newer, difference_tells_apart, overwritten_is_map,
 };
+pub use variable::{Patch, Variable};

@@ -3,14 +3,18 @@ ghost use Rattle.aw_page.specs.Fitting.{is_of_kind};
 ghost use Rattle.aw_cell.specs.declared.cell.Cell.TheVariants.{Na};
 ghost use Rattle.std.specs.BTreeMap.{IsUnchanged};
 ghost use Rattle.aw_var.specs.inside.NumberedMap.{cell_of, set_of, difference_of};
+ghost use Rattle.aw_var.specs.inside.Unpacking.{with_coords, AreNumbersOf};
 ghost use Rattle.aw_var.specs.inside.Sheets.{PutsCell, number_pages, AreSheets};
 
 use aw_cell::{Cell, Kind};
+use aw_lists::{Coord, List};
 use std::alloc::{AllocError, Global};
 use std::collections::BTreeMap;
 use std::marker::Model;
 
+use crate::patching::{lesser, push_changes};
 use crate::sheet::Sheet;
+use crate::walk::Walk;
 
 /// A finite map from packed keys to cells of one kind that aren't NA, in sheets of 64 by `number / 64`.
 #[derive(Drop)]
@@ -140,27 +144,27 @@ impl Numbered {
         self.sheets.is_empty()
     }
 
-    /// How many pages the cells would be on if a cell were set.
-    pub fn pages_with(&self, number: u128, cell: Cell) -> usize
-        requires { IsTrue (is_of_kind self.now.kind cell) }
-        ensures { result ≡ number_pages (set_of self.now.cells number cell) }
+    /// Whether the cells would be on more than so many pages if one were set.
+    pub fn needs_more(&self, most: usize, number: u128, cell: &Cell) -> bool
+        requires { IsTrue (is_of_kind self.now.kind cell.now) }
+        ensures { IsTrue result ↔ (most < number_pages (set_of self.now.cells number cell.now)) }
     {
-        let (page, at) = (number / 64, (number % 64) as u8);
-        match (self.sheets.get(&page), cell) {
-            (Some(sheet), Cell::Na) if sheet.is_empty_without(at) => self.sheets.len() - 1,
-            (None, cell) if cell != Cell::Na => self.sheets.len() + 1,
-            _ => self.sheets.len(),
-        }
+        self.sheets.len() >= most && self.pages_with(number, cell) > most
     }
 
-    /// The page of that number, where the cells aren't TEXT and one of it is not NA.
-    pub fn page(&self, number: u128) -> Option<&Page>
-        ensures none { IsNone result ↔ HasNoPage self.now.kind self.now.cells number }
-        ensures cells { IfSome result (λ page. ArePageCells self.now.cells number page.now) }
+    /// How many pages the cells would be on if one were set.
+    fn pages_with(&self, number: u128, cell: &Cell) -> usize
+        requires { IsTrue (is_of_kind self.now.kind cell.now) }
+        ensures pages { result ≡ number_pages (set_of self.now.cells number cell.now) }
     {
-        match self.sheets.get(&number) {
-            Some(sheet) => sheet.plain(),
-            None => None,
+        let count = self.sheets.len();
+        match self.sheets.get(&(number / 64)) {
+            Some(sheet) if *cell == Cell::Na && sheet.is_blank_without((number % 64) as u8) => {
+                count - 1
+            }
+            Some(_) => count,
+            None if *cell == Cell::Na => count,
+            None => count + 1,
         }
     }
 
@@ -173,11 +177,20 @@ impl Numbered {
         ensures { IfOk result (λ patch. patch ≡ with_coords slots (difference_of older.now.cells self.now.cells)) }
     {
         let mut patch = Vec::new(self.alloc);
-        let (mut newer, mut older) = (Walk::new(&self.sheets), Walk::new(&older.sheets));
-        while let Some(page) = lesser(newer.page(), older.page()) {
-            let (now, before) = (newer.take_at(page), older.take_at(page));
+        let mut ours = Walk::new(&self.sheets);
+        let mut theirs = Walk::new(&older.sheets);
+        'pages: while let Some(page) = lesser(ours.page(), theirs.page()) {
+            let now = ours.take_at(page);
+            let before = theirs.take_at(page);
             push_changes(&mut patch, slots, page, before, now)?;
         }
         Ok(List::from_vec(patch))
+    }
+
+    /// Whether two maps are of one kind with the same cells.
+    pub fn is_same(&self, other: &Numbered) -> bool
+        ensures { IsTrue result ↔ (self.now ≡ other.now) }
+    {
+        self.kind == other.kind && self.sheets == other.sheets
     }
 }

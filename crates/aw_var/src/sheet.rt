@@ -5,6 +5,8 @@ ghost use Rattle.aw_cell.specs.declared.cell.Cell.TheVariants.{Na};
 ghost use Rattle.aw_page.specs.Fitting.{is_na, is_of_kind, IsPlain, IsTextOrNa};
 ghost use Rattle.aw_var.specs.inside.Sheets.{is_text_kind};
 ghost use Rattle.aw_var.specs.inside.Shared.{IsHeldBy};
+ghost use Rattle.aw_var.specs.inside.Differences.{cell_on};
+ghost use Rattle.std.specs.Option.{option_copied};
 
 use aw_cell::{Cell, Kind};
 use aw_page::{Page, TextPage};
@@ -113,6 +115,20 @@ impl Sheet {
         }
     }
 
+    /// Whether every cell but that at a place is NA.
+    pub fn is_blank_without(&self, at: u8) -> bool
+        requires place { at < 64 }
+        requires size { length self.now.1 ≡ 64 }
+        ensures { result ≡ list_all is_na (slice_set self.now.1 at Na) }
+    {
+        for place in 0..64 {
+            if place != at && self.get(place) != Cell::Na {
+                return false;
+            }
+        }
+        true
+    }
+
     /// The page itself, where its cells aren't TEXT.
     pub fn plain(&self) -> Option<&Page>
         ensures none { IsNone result ↔ IsTrue self.now.0 }
@@ -136,5 +152,37 @@ impl Clone for Sheet {
             Shared::Text(page) => Shared::Text(Arc::try_clone(page)?),
         };
         Ok(Sheet { page })
+    }
+}
+
+impl PartialEq for Sheet {
+    ghost use Rattle.std.specs.Prelude.{◌≡◌, ◌&&◌};
+    ghost use Rattle.std.specs.Bool.{beq};
+    ghost use Rattle.std.specs.Cmp.{and_per, on_per, partial_equiv_from_equiv, decided, booleans_Decides};
+    ghost use Rattle.std.specs.Cmp.Lexicographic.{pointwise, lists_per};
+    ghost use Rattle.aw_cell.specs.Cell.{same_cell};
+    ghost use Rattle.aw_cell.specs.SameCell.{same_cell_partial_equivalence};
+
+    ghost eq = { λ one other. beq one.0 other.0 && pointwise same_cell one.1 other.1 };
+
+    ghost laws = { and_per (on_per (λ s. s.0) (partial_equiv_from_equiv (decided beq booleans_Decides))) (on_per (λ s. s.1) (lists_per same_cell_partial_equivalence)) };
+
+    fn eq(&self, other: &Sheet) -> bool {
+        match (&self.page, &other.page) {
+            (Shared::Plain(one), Shared::Plain(other)) => **one == **other,
+            (Shared::Text(one), Shared::Text(other)) => **one == **other,
+            _ => false,
+        }
+    }
+}
+
+/// The cell at a place of a sheet, NA where there is no sheet.
+pub fn cell_in(sheet: Option<&Sheet>, at: u8) -> Cell
+    requires { at < 64 }
+    ensures { result ≡ cell_on (option_copied sheet.entry) at }
+{
+    match sheet {
+        Some(sheet) => sheet.get(at),
+        None => Cell::Na,
     }
 }

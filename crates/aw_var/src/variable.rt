@@ -1,4 +1,5 @@
 ghost use Rattle.std.specs.Prelude.{◌≡◌, ◌≤◌, ◌<◌, ◌↔◌, [], length, IsTrue, IsNone, IfSome, IfOk, OnOk, OnErr};
+ghost use Rattle.aw_lists.specs.Coord.{packed, AreSlots};
 ghost use Rattle.aw_page.specs.Fitting.{is_of_kind};
 ghost use Rattle.aw_var.specs.CellMap.{cell_at, set_at};
 ghost use Rattle.aw_var.specs.CellPatch.{difference};
@@ -7,16 +8,17 @@ ghost use Rattle.aw_var.specs.Variable.{IsVariable};
 
 use aw_cell::{Cell, Kind};
 use aw_lists::{Coord, List};
-use aw_page::Page;
 use std::alloc::{AllocError, Global};
 use std::marker::Model;
 
 use crate::fault::VarFault;
 use crate::numbered::Numbered;
+use crate::patching::keep_range;
 
 /// Which cells a variable changes: each key with its new cell, or NA where the cell is taken away; the
 /// keys rise (docs/SHARING.md, "Patches").
 pub type Patch = List<(Coord, Cell)>;
+
 
 /// The most pages that the cells of a variable lie on where they are set one by one.
 const MOST_PAGES: usize = 65_536;
@@ -39,6 +41,14 @@ impl Model for Variable {
     ghost view = { λ v. record { slots = v.slots; kind = v.cells.kind; cells = with_coords v.slots v.cells.cells } };
 
     ghost invariant = { λ v. AreNumbersOf v.slots v.cells.cells };
+}
+
+/// The packed number of a key.
+fn number_of(at: &Coord) -> u128
+    ensures value { result ≡ packed at.now }
+    ensures slots { AreSlots at.now }
+{
+    keep_range(at.slots(), at.pack())
 }
 
 impl Variable {
@@ -72,7 +82,7 @@ impl Variable {
         requires { length at.now ≡ self.now.slots }
         ensures { result ≡ cell_at self.now.cells at.now }
     {
-        self.cells.get(at.pack())
+        self.cells.get(number_of(at))
     }
 
     /// Sets the cell at a key; NA takes it away. `Full` where the cells would then lie on more than
@@ -84,11 +94,22 @@ impl Variable {
         ensures full { (result ≡ Err VarFault.Full) ↔ (MOST_PAGES < page_count (set_at self.old.cells at.now cell)) }
         ensures err { OnErr result (self.new ≡ self.old) }
     {
-        if self.cells.pages_with(at.pack(), cell) > MOST_PAGES {
+        if self.is_full_for(at, &cell) {
             return Err(VarFault::Full);
         }
-        self.put(at, cell)?;
-        Ok(())
+        match self.put(at, cell) {
+            Ok(()) => Ok(()),
+            Err(AllocError) => Err(VarFault::NoMemory),
+        }
+    }
+
+    /// Whether the cells would be on too many pages if one were set.
+    fn is_full_for(&self, at: &Coord, cell: &Cell) -> bool
+        requires slots { length at.now ≡ self.now.slots }
+        requires kind { IsTrue (is_of_kind self.now.kind cell.now) }
+        ensures { IsTrue result ↔ (MOST_PAGES < page_count (set_at self.now.cells at.now cell.now)) }
+    {
+        self.cells.needs_more(MOST_PAGES, number_of(at), cell)
     }
 
     /// Sets the cell at a key, on any number of pages; NA takes it away. Want of memory leaves all as it
@@ -99,7 +120,7 @@ impl Variable {
         ensures ok { OnOk result (self.new ≡ record self.old { cells = set_at self.old.cells at.now cell }) }
         ensures err { OnErr result (self.new ≡ self.old) }
     {
-        self.cells.put(at.pack(), cell)
+        self.cells.put(number_of(at), cell)
     }
 
     /// What makes this variable of an older one with keys as long and cells of its kind: the keys at
@@ -120,22 +141,5 @@ impl Variable {
             slots: self.slots,
             cells: self.cells.copied()?,
         })
-    }
-
-    /// The 64 cells whose keys pack to 64 times this number and up; `None` where the cells are TEXT, or
-    /// every one of these is NA. It takes no memory.
-    pub fn page(&self, number: u128) -> Option<&Page>
-        ensures none { IsNone result ↔ HasNoPage self.now.kind self.now.cells number }
-        ensures cells { IfSome result (λ page. ArePageCells self.now.cells number page.now) }
-    {
-        self.cells.page(number)
-    }
-
-    /// Whether every cell is NA.
-    pub fn is_empty(&self) -> bool
-        ensures empty { IsTrue result ↔ (self.now.cells ≡ []) }
-        ensures valid { IsVariable self.now }
-    {
-        self.cells.is_empty()
     }
 }

@@ -1,4 +1,4 @@
-ghost use Rattle.std.specs.Prelude.{◌≡◌, ◌↔◌, [], ◌∷◌};
+ghost use Rattle.std.specs.Prelude.{◌≡◌};
 ghost use Rattle.std.specs.Option.{option_copied};
 ghost use Rattle.aw_var.specs.inside.Walks.{first_page, TakesSheet};
 
@@ -15,16 +15,18 @@ pub struct Walk<'a> {
     rest: Iter<'a, u128, Sheet>,
 }
 
-impl Model for Walk<'_> {
+impl<'a> Model for Walk<'a> {
     ghost use Rattle.aw_var.specs.inside.Sheets.{Sheets};
 
     ghost Value = { Sheets };
 
-    ghost use Rattle.std.specs.Prelude.{◌++◌, option_to_list};
+    ghost use Rattle.std.specs.Prelude.{◌≡◌, ◌++◌, option_to_list, None, []};
     ghost use Rattle.std.specs.Option.{option_map};
     ghost use Rattle.std.specs.Map.Iter.{deref_pair};
 
     ghost view = { λ walk. option_to_list (option_map deref_pair walk.next) ++ walk.rest };
+
+    ghost invariant = { λ walk. walk.next ≡ None → walk.rest ≡ [] };
 }
 
 impl<'a> Walk<'a> {

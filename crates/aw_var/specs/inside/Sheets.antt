@@ -61,7 +61,7 @@ sheet_with kind sheets page place cell = let sheet = unwrap_or (sheet_at sheets 
 -- one cell is put in the sheet of its page, which is left out where every cell of it is NA; all others stay
 pub record PutsCell (kind : Kind) (old new : Sheets) (page place : ℕ) (cell : Cell) : Type 0 where
   pub ordered : IsStrictlySortedBy nat_cmp (keys_of new)
-  pub sheets : (other : ℕ) → sheet_at new other ≡ cond (is_at (nat_cmp other) page) (unless_blank (sheet_with kind old page place cell)) (sheet_at old other)
+  pub sheets : (other : ℕ) → sheet_at new other ≡ cond (is_at (nat_cmp page) other) (unless_blank (sheet_with kind old page place cell)) (sheet_at old other)
 
 -- how many pages the numbers are on
 abbrev pub number_pages : List (ℕ × Cell) → ℕ

@@ -1,0 +1,11 @@
+pub mod FiniteMaps
+pub mod Numbers
+pub mod Sheets
+pub mod Puts
+pub mod Unpacking
+pub mod PageCounts
+pub mod Blank
+pub mod Digits
+pub mod SheetDifferences
+pub mod GoingOver
+pub mod SameSheets
