@@ -1,1 +1,10 @@
+mod Changes
+mod Editing
 mod GivenSlots
+mod LookUps
+mod Made
+mod NameIndexes
+mod NameOrder
+mod Placing
+mod Valid
+mod Views

@@ -20,10 +20,12 @@ others entries slot = filter (λ entry. not (entry.0 == slot)) entries
 abbrev pub removed : Values → ℕ → Values
 removed values slot = record { entries = others values.entries slot; next = values.next }
 
--- with another name for the value with this slot
+-- a value, with another name where it has this slot
+abbrev pub renamed_entry : ℕ → List ℕ → Entry → Entry
+renamed_entry slot name entry = (entry.0, if entry.0 == slot then name else entry.1)
+
 abbrev pub renamed : Values → ℕ → List ℕ → Values
-renamed values slot name =
-    record { entries = map (λ entry. (entry.0, if entry.0 == slot then name else entry.1)) values.entries; next = values.next }
+renamed values slot name = record { entries = map (renamed_entry slot name) values.entries; next = values.next }
 
 -- with the value of this slot at a place among the others, or behind them where they are fewer
 abbrev pub moved : Values → ℕ → ℕ → Values

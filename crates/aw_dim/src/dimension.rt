@@ -1,14 +1,17 @@
-ghost use Rattle.std.specs.Prelude.{◌≡◌, ◌≢◌, ◌↔◌, ◌≤◌, [], length, IsSome, IsOk, IfOk, IfErr, IfSome, OnOk, OnErr, None, Some, Err, slice_get};
-ghost use Rattle.std.specs.Option.{option_map};
+ghost use Rattle.std.specs.Prelude.{◌≡◌, ◌≢◌, ◌↔◌, ◌≤◌, [], length, IsSome, is_some, IsOk, IfOk, IfErr, IfSome, OnOk, OnErr, None, Some, Err, slice_get};
+ghost use Rattle.std.specs.Option.{option_map, ForSome};
 ghost use Rattle.aw_dim.specs.Values.{Values, IsDimension, slot_of, name_of, position_of, HasName, HasSlot};
 ghost use Rattle.aw_dim.specs.Edits.{empty, added, removed, renamed, moved};
+ghost use Rattle.aw_dim.specs.inside.Index.{IsAt};
 
+use crate::change::{name_anew, put, shift, take};
 use crate::fault::DimFault;
-use crate::index::{enlist, mark_places, name_at, rank, unlist};
-use crate::making::{are_named, by_name, find_places, names_rise};
+use crate::index::{mark_places, name_by, place_of, rank, slot_at};
+use crate::making::{are_listed, are_placed, by_name, names_rise};
 use aw_cell::Text;
 use aw_lists::List;
 use std::alloc::{AllocError, Global};
+use std::fmt;
 use std::marker::Model;
 
 /// The values of a dimension, each with a slot that no other value has or had, and a name that no
@@ -58,6 +61,12 @@ impl Eq for Dimension {
     ghost laws = { same_values_equivalence };
 }
 
+impl fmt::Debug for Dimension {
+    fn fmt<W: fmt::Write>(&self, f: &mut fmt::Formatter<W>) -> fmt::Result {
+        f.debug_list().entries(self.entries()).finish()
+    }
+}
+
 impl Dimension {
     /// How many slots there are at most.
     const MOST: usize = 65_536;
@@ -86,15 +95,13 @@ impl Dimension {
         ensures value { IfOk result (λ made. IfSome made (λ dimension. dimension ≡ record { entries = entries; next = next })) }
         ensures exact { IfOk result (λ made. IsSome made ↔ IsDimension (record { entries = entries; next = next })) }
     {
-        if next as usize > Self::MOST
-            || entries.len() > next as usize
-            || !are_named(entries.as_slice())
-        {
+        if !are_listed(entries.as_slice(), next) {
             return Ok(None);
         }
         let entries = entries.into_vec();
         let mut places = vec![in alloc; 0; next as usize]?;
-        if !find_places(entries.as_slice(), places.as_mut_slice()) {
+        mark_places(entries.as_slice(), &mut places, 0);
+        if !are_placed(entries.as_slice(), places.as_slice()) {
             return Ok(None);
         }
         let by_name = by_name(alloc, entries.as_slice(), places.as_slice())?;
@@ -140,26 +147,27 @@ impl Dimension {
         Some(*slot)
     }
 
+    fn place(&self, slot: u16) -> Option<u16>
+        ensures value { result ≡ position_of self.now slot }
+        ensures here { ForSome result (λ place. IsAt self.now.entries place slot) }
+        ensures known { is_some result ≡ is_some (name_of self.now slot) }
+    {
+        place_of(self.entries.as_slice(), self.places.as_slice(), slot)
+    }
+
     /// The place from 0 of the value with a slot, or `None` where there is none. It takes no memory.
     pub fn position_of(&self, slot: u16) -> Option<u32>
         ensures { result ≡ position_of self.now slot }
     {
-        let place = *self.places.get(usize::from(slot))?;
-        let (found, _) = self.entries.get(usize::from(place))?;
-        if *found == slot {
-            Some(u32::from(place))
-        } else {
-            None
-        }
+        let place = self.place(slot)?;
+        Some(u32::from(place))
     }
 
     /// The name of the value with a slot, or `None` where there is none. It takes no memory.
     pub fn name_of(&self, slot: u16) -> Option<Text>
         ensures { result ≡ name_of self.now slot }
     {
-        let place = self.position_of(slot)?;
-        let (_, name) = self.entries.get(place as usize)?;
-        Some(*name)
+        name_by(self.entries.as_slice(), self.place(slot))
     }
 
     /// The slot of the value with a name, or `None` where there is none. It takes no memory.
@@ -168,12 +176,7 @@ impl Dimension {
     {
         let (entries, places) = (self.entries.as_slice(), self.places.as_slice());
         let at = rank(entries, places, self.by_name.as_slice(), name.bytes());
-        let slot = *self.by_name.get(at)?;
-        if name_at(entries, places, slot) == name.bytes() {
-            Some(slot)
-        } else {
-            None
-        }
+        slot_at(entries, places, self.by_name.as_slice(), at, name.bytes())
     }
 
     /// Adds a value at a place, from 0 to the length, and answers its slot, which is the next one.
@@ -192,19 +195,12 @@ impl Dimension {
         if self.slot_of(&name).is_some() {
             return Err(DimFault::Duplicate);
         }
-        let next = self.places.len();
-        if next == Self::MOST {
+        if self.places.len() == Self::MOST {
             return Err(DimFault::Full);
         }
-        self.by_name.reserve(1)?;
-        self.entries.reserve(1)?;
-        self.places.push(0)?;
-        let value = (next as u16, name);
-        let _ = self.entries.insert(place as usize, value);
-        let entries = self.entries.as_slice();
-        mark_places(entries, self.places.as_mut_slice(), place as usize);
-        enlist(entries, self.places.as_slice(), &mut self.by_name, &value);
-        Ok(value.0)
+        let (entries, places, by_name) = (&mut self.entries, &mut self.places, &mut self.by_name);
+        let slot = put(entries, places, by_name, place as usize, name)?;
+        Ok(slot)
     }
 
     /// Takes the value with a slot away. `NoValue` where there is none. It takes no memory.
@@ -214,21 +210,15 @@ impl Dimension {
         ensures some { IsOk result ↔ HasSlot self.old slot }
         ensures no_value { IfErr result (λ fault. fault ≡ DimFault.NoValue) }
     {
-        let Some(place) = self.position_of(slot) else {
+        let Some(place) = self.place(slot) else {
             return Err(DimFault::NoValue);
         };
-        let value = self.entries[place as usize];
-        unlist(
-            self.entries.as_slice(),
-            self.places.as_slice(),
+        let place = usize::from(place);
+        take(
+            &mut self.entries,
+            &mut self.places,
             &mut self.by_name,
-            &value,
-        );
-        self.entries.remove(place as usize);
-        mark_places(
-            self.entries.as_slice(),
-            self.places.as_mut_slice(),
-            place as usize,
+            place,
         );
         Ok(())
     }
@@ -243,26 +233,21 @@ impl Dimension {
         ensures duplicate { (result ≡ Err DimFault.Duplicate) ↔ (HasSlot self.old slot × HasName self.old name) }
         ensures some { IsOk result ↔ (HasSlot self.old slot × (slot_of self.old name ≡ None)) }
     {
-        let Some(place) = self.position_of(slot) else {
+        let Some(place) = self.place(slot) else {
             return Err(DimFault::NoValue);
         };
-        if self.slot_of(&name).is_some() {
+        let taken = self.slot_of(&name).is_some();
+        if taken {
             return Err(DimFault::Duplicate);
         }
-        let (place, value) = (place as usize, (slot, name));
-        let old = self.entries[place];
-        unlist(
-            self.entries.as_slice(),
-            self.places.as_slice(),
+        let (entries, places) = (&mut self.entries, self.places.as_slice());
+        name_anew(
+            entries,
+            places,
             &mut self.by_name,
-            &old,
-        );
-        self.entries[place] = value;
-        enlist(
-            self.entries.as_slice(),
-            self.places.as_slice(),
-            &mut self.by_name,
-            &value,
+            usize::from(place),
+            slot,
+            name,
         );
         Ok(())
     }
@@ -276,17 +261,12 @@ impl Dimension {
         ensures some { IsOk result ↔ HasSlot self.old slot }
         ensures no_value { IfErr result (λ fault. fault ≡ DimFault.NoValue) }
     {
-        let Some(from) = self.position_of(slot) else {
+        let Some(from) = self.place(slot) else {
             return Err(DimFault::NoValue);
         };
-        let value = self.entries.remove(from as usize);
-        let place = (place as usize).min(self.entries.len());
-        let _ = self.entries.insert(place, value);
-        mark_places(
-            self.entries.as_slice(),
-            self.places.as_mut_slice(),
-            place.min(from as usize),
-        );
+        let last = self.entries.len() - 1;
+        let to = (place as usize).min(last);
+        shift(&mut self.entries, &mut self.places, usize::from(from), to);
         Ok(())
     }
 
@@ -300,5 +280,92 @@ impl Dimension {
             places: Vec::from_slice(self.alloc, self.places.as_slice())?,
             by_name: Vec::from_slice(self.alloc, self.by_name.as_slice())?,
         })
+    }
+}
+
+#[cfg(test)]
+mod tests {
+    use super::*;
+    use std::test::Fail;
+
+    fn needs_send_and_sync<T: Send + Sync + Drop>(_: T) {}
+
+    /// Whether a dimension has these values in this order, and its look-ups find them.
+    fn has(dimension: &Dimension, values: &[(u16, &[u8])]) -> bool {
+        let mut same = dimension.len() as usize == values.len();
+        for (place, (slot, name)) in values.iter().enumerate() {
+            same &= dimension.at(place as u32) == Some(*slot);
+            same &= dimension.position_of(*slot) == Some(place as u32);
+            same &= match (dimension.name_of(*slot), Text::of(name)) {
+                (Some(found), Some(text)) => {
+                    found == text && dimension.slot_of(&text) == Some(*slot)
+                }
+                _ => false,
+            };
+        }
+        same
+    }
+
+    /// Adds a value, and says whether it got a slot.
+    fn adds(dimension: &mut Dimension, name: &[u8], place: u32, slot: u16) -> bool {
+        match Text::of(name) {
+            Some(text) if !text.bytes().is_empty() && place <= dimension.len() => {
+                dimension.add(text, place) == Ok(slot)
+            }
+            _ => false,
+        }
+    }
+
+    /// Whether a call succeeded.
+    fn done(ended: Result<(), DimFault>) -> bool {
+        ended == Ok(())
+    }
+
+    #[test]
+    fn keeps_its_values_in_order(rt: HostRuntime) -> Result<(), Fail> {
+        let mut dimension = Dimension::new(rt.alloc());
+        let added = adds(&mut dimension, b"North", 0, 0)
+            & adds(&mut dimension, b"East", 1, 1)
+            & adds(&mut dimension, b"All", 0, 2);
+        assert!(rt; added & has(&dimension, &[(2, b"All"), (0, b"North"), (1, b"East")]));
+        let removed = done(dimension.remove(1)) & !done(dimension.remove(1));
+        let again = adds(&mut dimension, b"East", 2, 3) & !adds(&mut dimension, b"All", 0, 4);
+        assert!(rt; removed & again & has(&dimension, &[(2, b"All"), (0, b"North"), (3, b"East")]));
+        Ok(())
+    }
+
+    #[test]
+    fn moves_renames_and_copies(rt: HostRuntime) -> Result<(), Fail> {
+        let mut dimension = Dimension::new(rt.alloc());
+        let added = adds(&mut dimension, b"C", 0, 0)
+            & adds(&mut dimension, b"A", 1, 1)
+            & adds(&mut dimension, b"B", 2, 2);
+        let moved = done(dimension.move_to(0, 1));
+        assert!(rt; added & moved & has(&dimension, &[(1, b"A"), (0, b"C"), (2, b"B")]));
+        let name = Text::of(b"D").ok_or("a text")?;
+        let renamed = !name.bytes().is_empty() && done(dimension.rename(1, name));
+        let moved = done(dimension.move_to(1, 3));
+        assert!(rt; renamed & moved & has(&dimension, &[(0, b"C"), (2, b"B"), (1, b"D")]));
+        assert!(rt; dimension.copied()? == dimension && dimension.next() == 3);
+        needs_send_and_sync(dimension);
+        needs_send_and_sync(DimFault::Full);
+        Ok(())
+    }
+
+    #[test]
+    fn is_made_from_its_values(rt: HostRuntime) -> Result<(), Fail> {
+        let one = Text::of(b"A").ok_or("a text")?;
+        let other = Text::of(b"B").ok_or("a text")?;
+        let same_name = List::from_slice(rt.alloc(), &[(4, one), (2, one)])?;
+        let same_slot = List::from_slice(rt.alloc(), &[(4, one), (4, other)])?;
+        let values = List::from_slice(rt.alloc(), &[(4, other), (2, one)])?;
+        let low = List::from_slice(rt.alloc(), &[(4, other)])?;
+        assert!(rt; Dimension::of(rt.alloc(), same_name, 5)?.is_none());
+        assert!(rt; Dimension::of(rt.alloc(), same_slot, 5)?.is_none());
+        assert!(rt; Dimension::of(rt.alloc(), low, 4)?.is_none());
+        let made = Dimension::of(rt.alloc(), values, 5)?.ok_or("a dimension")?;
+        assert!(rt; has(&made, &[(4, b"B"), (2, b"A")]));
+        crate::slots_are_never_given_again();
+        Ok(())
     }
 }

@@ -1,16 +1,20 @@
 //! The index of a dimension: the places of its values by slot, and their slots by name.
-ghost use Rattle.std.specs.Prelude.{ℕ, ◌≡◌, ◌<◌, ◌≤◌, length, vec_len, vec_capacity, ◌+◌, true, false};
+ghost use Rattle.std.specs.Prelude.{ℕ, ◌≡◌, ◌<◌, ◌≤◌, length, vec_len, vec_capacity, slice_get, IsTrue, true, false};
 ghost use Rattle.std.specs.List.Sorted.{IsPartitionedBy, IsPartitionPoint};
-ghost use Rattle.aw_dim.specs.inside.Index.{ArePlaced, Has, HasBut, IsNameIndex, SlotsFit, indexed_name, precedes};
+ghost use Rattle.aw_cell.specs.Text.{is_text};
+ghost use Rattle.aw_dim.specs.inside.Index.{AreBelow, ArePlaced, Has, HasBut, IsNameIndex, SlotsFit, indexed_name, indexed_place, listed_slot, name_by, precedes};
 
 use aw_cell::Text;
 
-/// Writes the place of each value from a place on at its slot.
-pub fn mark_places(entries: &[(u16, Text)], places: &mut [u16], from: usize)
-    requires fit { SlotsFit entries.now (length places.old) }
+/// Writes the place of each value from a place on at its slot. Where no two values have one slot,
+/// all places then stand at the slots.
+pub fn mark_places(entries: &[(u16, Text)], places: &mut Vec<u16>, from: usize)
+    requires below { AreBelow entries.now (length places.old.items) }
     requires few { length entries.now ≤ 65536 }
-    requires before { ArePlaced entries.now places.old from }
-    ensures { ArePlaced entries.now places.new (length entries.now) }
+    ensures placed { SlotsFit entries.now (length places.old.items) →
+        ArePlaced entries.now places.old.items from →
+        ArePlaced entries.now places.new.items (length entries.now) }
+    ensures next { length places.new.items ≡ length places.old.items }
 {
     for place in from..entries.len() {
         places[usize::from(entries[place].0)] = place as u16;
@@ -30,6 +34,61 @@ pub fn name_at<'a>(entries: &'a [(u16, Text)], places: &[u16], slot: u16) -> &'a
     }
 }
 
+/// The place of the value with a slot.
+pub fn place_of(entries: &[(u16, Text)], places: &[u16], slot: u16) -> Option<u16>
+    ensures { result ≡ indexed_place entries.now places.now slot }
+{
+    match places.get(usize::from(slot)) {
+        Some(place) => match entries.get(usize::from(*place)) {
+            Some(entry) => { if entry.0 == slot { Some(*place) } else { None } }
+            None => None,
+        },
+        None => None,
+    }
+}
+
+/// The name of the value at a place.
+pub fn name_by(entries: &[(u16, Text)], place: Option<u16>) -> Option<Text>
+    ensures { result ≡ name_by entries.now place }
+{
+    match place {
+        Some(place) => match entries.get(usize::from(place)) {
+            Some(entry) => Some(entry.1),
+            None => None,
+        },
+        None => None,
+    }
+}
+
+/// The listed slot at a rank, where its value has a name.
+pub fn slot_at(
+    entries: &[(u16, Text)],
+    places: &[u16],
+    by_name: &[u16],
+    at: usize,
+    name: &[u8],
+) -> Option<u16>
+    ensures { result ≡ listed_slot entries.now places.now name.now (slice_get by_name.now at) }
+{
+    match by_name.get(at) {
+        Some(slot) => {
+            if name_at(entries, places, *slot) == name {
+                Some(*slot)
+            } else {
+                None
+            }
+        }
+        None => None,
+    }
+}
+
+/// Whether the name of the value with a slot stands before a name.
+fn stands_before(entries: &[(u16, Text)], places: &[u16], slot: u16, name: &[u8]) -> bool
+    ensures { result ≡ precedes (indexed_name entries.now places.now slot) name.now }
+{
+    name_at(entries, places, slot).cmp(name).is_lt()
+}
+
 /// How many of the listed slots have names that stand before a name.
 pub fn rank(entries: &[(u16, Text)], places: &[u16], by_name: &[u16], name: &[u8]) -> usize
     ensures within { result ≤ length by_name.now }
@@ -37,7 +96,7 @@ pub fn rank(entries: &[(u16, Text)], places: &[u16], by_name: &[u16], name: &[u8
         IsPartitionPoint (λ slot. precedes (indexed_name entries.now places.now slot) name.now ≡ true)
         (λ slot. precedes (indexed_name entries.now places.now slot) name.now ≡ false) by_name.now result }
 {
-    by_name.partition_point(|slot| name_at(entries, places, *slot).cmp(name).is_lt())
+    by_name.partition_point(|slot| stands_before(entries, places, *slot, name))
 }
 
 /// Puts the slot of a value among the slots that are listed by name.
@@ -47,7 +106,8 @@ pub fn enlist(entries: &[(u16, Text)], places: &[u16], by_name: &mut Vec<u16>, v
     requires value { Has entries.now value.now.0 value.now.1 }
     requires unused { (slot : ℕ) → HasBut entries.now value.now.0 slot value.now.1 → ⊥ }
     requires room { vec_len by_name.old < vec_capacity by_name.old }
-    ensures { IsNameIndex (Has entries.now) by_name.new.items }
+    ensures listed { IsNameIndex (Has entries.now) by_name.new.items }
+    ensures text { IsTrue (is_text value.now.1) }
 {
     let at = rank(entries, places, by_name.as_slice(), value.1.bytes());
     let _ = by_name.insert(at, value.0);

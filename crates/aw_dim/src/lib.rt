@@ -1,6 +1,7 @@
 //! The values of a dimension in their order, each with its name and its slot.
 #![tactic(auto)]
 
+mod change;
 mod dimension;
 mod fault;
 mod index;

@@ -1,44 +1,66 @@
 //! The index of a dimension that is made from its values.
-ghost use Rattle.std.specs.Prelude.{ℕ, ◌≡◌, ◌≢◌, ◌↔◌, ◌<◌, ◌≤◌, [], length, map, IsTrue, IfOk, true};
+ghost use Rattle.std.specs.Prelude.{◌≡◌, ◌↔◌, ◌<◌, length, map, IsTrue, IfOk, true};
+ghost use Rattle.std.specs.Cmp.Lexicographic.{slice_cmp};
 ghost use Rattle.std.specs.List.{All};
 ghost use Rattle.std.specs.List.Sorted.{IsPermutation, IsSortedBy};
-ghost use Rattle.aw_dim.specs.inside.Index.{ArePlaced, SlotsFit, indexed_name, precedes};
-ghost use Rattle.aw_dim.specs.inside.Making.{RiseBy, is_found};
+ghost use Rattle.std.specs.Ordering.{nat_cmp};
+ghost use Rattle.aw_dim.specs.Values.{IsValueName};
+ghost use Rattle.aw_dim.specs.inside.Index.{AreBelow, ArePlaced, indexed_name, precedes};
+ghost use Rattle.aw_dim.specs.inside.Making.{AreListed, RiseBy};
 
 use crate::index::name_at;
 use aw_cell::Text;
 use std::alloc::{AllocError, Global};
+use std::cmp::Ordering;
+
+fn is_value_name(name: &Text) -> bool
+    ensures { IsTrue result ↔ IsValueName name.now }
+{
+    !name.bytes().is_empty()
+}
 
 /// Whether no name is empty.
-pub fn are_named(entries: &[(u16, Text)]) -> bool
-    ensures { IsTrue result ↔ All (λ entry. entry.1 ≢ []) entries.now }
+fn are_named(entries: &[(u16, Text)]) -> bool
+    ensures { IsTrue result ↔ All (λ entry. IsValueName entry.1) entries.now }
 {
-    entries.iter().all(|(_, name)| !name.bytes().is_empty())
+    entries.iter().all(|(_, name)| is_value_name(name))
 }
 
-/// Whether a slot's place among the first values was found.
-fn is_found(entries: &[(u16, Text)], places: &[u16], count: usize, slot: u16) -> bool
-    requires { slot < length places.now }
-    ensures { result ≡ is_found entries.now places.now count slot }
+/// Whether each slot is below a number.
+fn are_below(entries: &[(u16, Text)], next: u32) -> bool
+    ensures { IsTrue result ↔ All (λ entry. entry.0 < next) entries.now }
 {
-    let place = usize::from(places[usize::from(slot)]);
-    place < count && entries[place].0 == slot
+    entries.iter().all(|(slot, _)| u32::from(*slot) < next)
 }
 
-/// Writes the place of each value at its slot. Answers whether the slots differ and have room.
-pub fn find_places(entries: &[(u16, Text)], places: &mut [u16]) -> bool
-    requires { length entries.now ≤ 65536 }
-    ensures fit { IsTrue result ↔ SlotsFit entries.now (length places.old) }
-    ensures placed { IsTrue result → ArePlaced entries.now places.new (length entries.now) }
+/// Whether values are named and have slots below the next one, which is at most 65,536.
+pub fn are_listed(entries: &[(u16, Text)], next: u32) -> bool
+    ensures { IsTrue result ↔ AreListed entries.now next }
 {
-    for (place, (slot, _)) in entries.iter().enumerate() {
-        let at = usize::from(*slot);
-        if at >= places.len() || is_found(entries, places, place, *slot) {
+    if next > 65_536 || entries.len() > next as usize {
+        return false;
+    }
+    are_named(entries) & are_below(entries, next)
+}
+
+/// Whether the place of each value stands at its slot.
+pub fn are_placed(entries: &[(u16, Text)], places: &[u16]) -> bool
+    requires { AreBelow entries.now (length places.now) }
+    ensures { IsTrue result ↔ ArePlaced entries.now places.now (length entries.now) }
+{
+    for place in 0..entries.len() {
+        if usize::from(places[usize::from(entries[place].0)]) != place {
             return false;
         }
-        places[at] = place as u16;
     }
     true
+}
+
+/// How the names of two slots' values are ordered.
+fn compare_names(entries: &[(u16, Text)], places: &[u16], one: u16, other: u16) -> Ordering
+    ensures { result ≡ slice_cmp nat_cmp (indexed_name entries.now places.now one) (indexed_name entries.now places.now other) }
+{
+    name_at(entries, places, one).cmp(name_at(entries, places, other))
 }
 
 /// The slots of the values, sorted by their names.
@@ -51,9 +73,9 @@ pub fn by_name(
     ensures sorted { IfOk result (λ slots. IsSortedBy (λ one other. precedes (indexed_name entries.now places.now one) (indexed_name entries.now places.now other)) slots.items) }
 {
     let mut slots: Vec<u16> = entries.iter().map(|(slot, _)| *slot).collect(alloc)?;
-    slots.as_mut_slice().sort_unstable_by(|one, other| name_at(entries, places, *one).cmp(name_at(
-        entries, places, *other,
-    )));
+    slots
+        .as_mut_slice()
+        .sort_unstable_by(|one, other| compare_names(entries, places, *one, *other));
     Ok(slots)
 }
 
@@ -62,8 +84,7 @@ pub fn names_rise(entries: &[(u16, Text)], places: &[u16], by_name: &[u16]) -> b
     ensures { IsTrue result ↔ RiseBy (indexed_name entries.now places.now) by_name.now }
 {
     for at in 1..by_name.len() {
-        let before = name_at(entries, places, by_name[at - 1]);
-        if !before.cmp(name_at(entries, places, by_name[at])).is_lt() {
+        if !compare_names(entries, places, by_name[at - 1], by_name[at]).is_lt() {
             return false;
         }
     }

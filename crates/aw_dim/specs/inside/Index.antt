@@ -1,8 +1,10 @@
 -- The index of a dimension: the place of each value, by its slot, and the slots in rising order of
 -- the values' names.
-use Rattle.std.specs.Prelude.{ℕ, Bool, true, false, ◌≡◌, ◌<◌, ◌≤◌, List, [], length, Some, None, slice_get}
+use Rattle.std.specs.Prelude.{ℕ, Bool, true, false, cond, ◌==◌, ◌≡◌, ◌<◌, ◌≤◌, List, [], length, Some, None, slice_get}
+use Rattle.std.specs.Str.{bytes_eq}
 use Rattle.std.specs.Ordering.{nat_cmp, is_lt}
 use Rattle.std.specs.Cmp.Lexicographic.{slice_cmp}
+use Rattle.std.specs.Option.{option_map}
 use Rattle.std.specs.declared.option.Option.{Option}
 use Rattle.aw_dim.specs.Values.{Entry, IsValueName}
 
@@ -15,11 +17,20 @@ pub record Has (entries : List Entry) (slot : ℕ) (name : List ℕ) : Type 0 wh
   pub place : ℕ
   pub value : slice_get entries place ≡ Some (slot, name)
 
+-- the value at a place has this slot
+pub record IsAt (entries : List Entry) (place slot : ℕ) : Type 0 where
+  pub name : List ℕ
+  pub value : slice_get entries place ≡ Some (slot, name)
+
 -- a value that isn't the one with a slot has this slot and this name
 pub record HasBut (entries : List Entry) (but slot : ℕ) (name : List ℕ) : Type 0 where
   pub place : ℕ
   pub value : slice_get entries place ≡ Some (slot, name)
   pub other : but ≡ slot → ⊥
+
+-- each slot is below a number
+pub record AreBelow (entries : List Entry) (room : ℕ) : Type 0 where
+  pub below : (place slot : ℕ) (name : List ℕ) → slice_get entries place ≡ Some (slot, name) → slot < room
 
 -- no two values have one slot, and each slot is below a number
 pub record SlotsFit (entries : List Entry) (room : ℕ) : Type 0 where
@@ -47,6 +58,28 @@ name_at entries (Some place) = name_in (slice_get entries place)
 -- the name that the places give for a slot
 abbrev pub indexed_name : List Entry → List ℕ → ℕ → List ℕ
 indexed_name entries places slot = name_at entries (slice_get places slot)
+
+-- the name of the value at a place
+abbrev pub name_by : List Entry → Option ℕ → Option (List ℕ)
+name_by entries None = None
+name_by entries (Some place) = option_map (λ entry. entry.1) (slice_get entries place)
+
+abbrev pub same_place : ℕ → ℕ → Option Entry → Option ℕ
+same_place slot place None = None
+same_place slot place (Some entry) = cond (entry.0 == slot) (Some place) None
+
+abbrev pub place_at : List Entry → ℕ → Option ℕ → Option ℕ
+place_at entries slot None = None
+place_at entries slot (Some place) = same_place slot place (slice_get entries place)
+
+-- the place that stands at a slot, where the value there has the slot
+abbrev pub indexed_place : List Entry → List ℕ → ℕ → Option ℕ
+indexed_place entries places slot = place_at entries slot (slice_get places slot)
+
+-- a listed slot, where its value has this name
+abbrev pub listed_slot : List Entry → List ℕ → List ℕ → Option ℕ → Option ℕ
+listed_slot entries places name None = None
+listed_slot entries places name (Some slot) = cond (bytes_eq (indexed_name entries places slot) name) (Some slot) None
 
 -- the parts of a dimension belong together
 pub record IsIndexed (entries : List Entry) (places by_name : List ℕ) : Type 0 where
