@@ -22,12 +22,12 @@ pub blank_from : (cells : List Cell) (at : ℕ) → length cells ≡ 64 → at <
 blank_from cells at size within each =
     let long = length-set cells at Na in
     all_na (slice_set cells at Na) (λ k h.
-      elim (k == at) as (λ b. (k == at) ≡ b → get_or (slice_set cells at Na) k Na ≡ Na) [
-        | true ↦ λ e. let same : k ≡ at = (Decides-eqb k at).0 e in
-            ap (λ j. get_or (slice_set cells at Na) j Na) same ∙ get_or-set_same cells at Na Na (omega arith)
-        | false ↦ λ e. let apart : k ≡ at → ⊥ = λ s. let t = (Decides-eqb k at).1 s in cc in
-            get_or-set_other cells at k Na Na apart ∙ each k (omega arith) apart
-      ] refl)
+    elim (k == at) as (λ b. (k == at) ≡ b → get_or (slice_set cells at Na) k Na ≡ Na) [
+      | true ↦ λ e. let same : k ≡ at = (Decides-eqb k at).0 e in
+          ap (λ j. get_or (slice_set cells at Na) j Na) same ∙ get_or-set_same cells at Na Na (omega arith)
+      | false ↦ λ e. let apart : k ≡ at → ⊥ = λ s. let t = (Decides-eqb k at).1 s in cc in
+          get_or-set_other cells at k Na Na apart ∙ each k (omega arith) apart
+    ] refl)
 
 pub used_from : (cells : List Cell) (at place : ℕ) (cell : Cell) → (place ≡ at → ⊥) → slice_get cells place ≡ Some cell → (cell ≡ Na → ⊥) → list_all is_na (slice_set cells at Na) ≡ false
 used_from cells at place cell apart is some =

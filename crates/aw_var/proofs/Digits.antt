@@ -46,13 +46,13 @@ digits_more slots at rest number h before =
     record {
       within = omega arith;
       total =
-        (λ i. rest / 65536 * 65536 ^ ((ap (λ n. n - at) size ∙ more) i) + packed ((drop-set slots at (rest % 65536) h ∙ ap (λ n. rest % 65536 ∷ drop n slots) next) i))
-        ∙ (λ i. rest / 65536 * pow-suc' (length slots - (at + 1)) i + (rest % 65536 * 65536 ^ low i + packed (drop (at + 1) slots)))
-        ∙ regrouped rest (65536 ^ (length slots - (at + 1))) (packed (drop (at + 1) slots)) number before.total;
+          (λ i. rest / 65536 * 65536 ^ ((ap (λ n. n - at) size ∙ more) i) + packed ((drop-set slots at (rest % 65536) h ∙ ap (λ n. rest % 65536 ∷ drop n slots) next) i))
+          ∙ (λ i. rest / 65536 * pow-suc' (length slots - (at + 1)) i + (rest % 65536 * 65536 ^ low i + packed (drop (at + 1) slots)))
+          ∙ regrouped rest (65536 ^ (length slots - (at + 1))) (packed (drop (at + 1) slots)) number before.total;
     }
-    where
-      pow-suc' : (n : ℕ) → 65536 ^ suc n ≡ 65536 ^ n * 65536
-      pow-suc' n = rw pow-suc (omega arith)
+  where
+    pow-suc' : (n : ℕ) → 65536 ^ suc n ≡ 65536 ^ n * 65536
+    pow-suc' n = rw pow-suc (omega arith)
 
 pub digits_end : (slots : List ℕ) (rest number : ℕ) → number < 65536 ^ length slots → DigitsFrom slots 0 rest number → packed slots ≡ number
 digits_end slots zero number h all = let t = all.total in omega (arith, all.total)

@@ -231,22 +231,22 @@ module _ {K : Type 0} {R : K → K → Ordering} (o : IsTotalOrder R) where
     pub difference-newer : (a b : List (K × Cell)) → IsMapBy R a → IsMapBy R b → overwritten_by R a (difference_by R a b) ≡ b
     difference-newer a b f g =
         same_map (overwritten_by R a (difference_by R a b)) b (IsMapBy-overwritten a (difference_by R a b) f) g (λ q.
-          cell-overwritten q a (difference_by R a b) (is_sorted-difference a b f)
-          ∙ ap (λ x. unwrap_or x (cell_by R a q)) (find-difference q a b f g)
-          ∙ elim (same_cell (cell_by R a q) (cell_by R b q)) as (λ s. same_cell (cell_by R a q) (cell_by R b q) ≡ s → unwrap_or (cond (not s) (Some (cell_by R b q)) None) (cell_by R a q) ≡ cell_by R b q) [
-            | true ↦ λ e. same_from _ _ e
-            | false ↦ λ _. refl
-          ] refl)
+        cell-overwritten q a (difference_by R a b) (is_sorted-difference a b f)
+        ∙ ap (λ x. unwrap_or x (cell_by R a q)) (find-difference q a b f g)
+        ∙ elim (same_cell (cell_by R a q) (cell_by R b q)) as (λ s. same_cell (cell_by R a q) (cell_by R b q) ≡ s → unwrap_or (cond (not s) (Some (cell_by R b q)) None) (cell_by R a q) ≡ cell_by R b q) [
+          | true ↦ λ e. same_from _ _ e
+          | false ↦ λ _. refl
+        ] refl)
 
     overwritten-put : (k : K) (c : Cell) (cells first : List (K × Cell)) → IsMapBy R cells → is_sorted R first ≡ true →
         set_by R (overwritten_by R cells first) k c ≡ overwritten_by R cells (put R k c first)
     overwritten-put k c cells first h rising =
         same_map _ _ (IsMapBy-set k c _ (IsMapBy-overwritten cells first h)) (IsMapBy-overwritten cells (put R k c first) h) (λ q.
-          cell-set q k c (overwritten_by R cells first)
-          ∙ ap (λ x. cond (eq_by_cmp R q k) c x) (cell-overwritten q cells first rising)
-          ∙ elim (eq_by_cmp R q k) as (λ b. cond b c (unwrap_or (find R q first) (cell_by R cells q)) ≡ unwrap_or (cond b (Some c) (find R q first)) (cell_by R cells q)) [ true ↦ refl | false ↦ refl ]
-          ∙ ap (λ x. unwrap_or x (cell_by R cells q)) (sym (find-put R o q k c first))
-          ∙ sym (cell-overwritten q cells (put R k c first) (from_T _ (is_sorted-put R o k c first (to_T _ rising)))))
+        cell-set q k c (overwritten_by R cells first)
+        ∙ ap (λ x. cond (eq_by_cmp R q k) c x) (cell-overwritten q cells first rising)
+        ∙ elim (eq_by_cmp R q k) as (λ b. cond b c (unwrap_or (find R q first) (cell_by R cells q)) ≡ unwrap_or (cond b (Some c) (find R q first)) (cell_by R cells q)) [ true ↦ refl | false ↦ refl ]
+        ∙ ap (λ x. unwrap_or x (cell_by R cells q)) (sym (find-put R o q k c first))
+        ∙ sym (cell-overwritten q cells (put R k c first) (from_T _ (is_sorted-put R o k c first (to_T _ rising)))))
 
     pub overwritten-composed : (cells first second : List (K × Cell)) → IsMapBy R cells → is_sorted R first ≡ true →
         overwritten_by R (overwritten_by R cells first) second ≡ overwritten_by R cells (composed_by R first second)
@@ -268,5 +268,5 @@ module _ {K : Type 0} {R : K → K → Ordering} (o : IsTotalOrder R) where
     pub difference-empty : (a b : List (K × Cell)) → IsMapBy R a → IsMapBy R b → (difference_by R a b ≡ []) ↔ (a ≡ b)
     difference-empty a b f g = (
       λ none. same_map a b f g (λ q. same_where_none a b q (sym (find-difference q a b f g) ∙ ap (λ x. find R q x) none)),
-      λ same. sym (is_difference a b [] f g refl (λ q. sym (none_where_same _ _ (ap (λ x. cell_by R x q) same))))
+      λ same. sym (is_difference a b [] f g refl (λ q. sym (none_where_same _ _ (ap (λ x. cell_by R x q) same)))),
     )

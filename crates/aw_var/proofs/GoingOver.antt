@@ -125,7 +125,7 @@ changes_fit kind slots olds news olds' news' items a b page before now h least o
           found_below slots (64 * page + place) (all_numbered olds) h.old_under (λ none. differ (sym (cell_there kind olds olds' page place before h.old t within) ∙ none ∙ sym na))
       | false ↦ λ e.
           found_below slots (64 * page + place) (all_numbered news) h.new_under (λ none.
-            let y = (same_cell-Decides (cell_on now place) Na).1 (sym (cell_there kind news news' page place now h.new u within) ∙ none) in cc)
+          let y = (same_cell-Decides (cell_on now place) Na).1 (sym (cell_there kind news news' page place now h.new u within) ∙ none) in cc)
     ] refl
 
 pub left_next : (kind : Kind) (slots : ℕ) (olds news olds' news' : Sheets) (items items' : Cells) (a b : List (ℕ × Cell)) (page : ℕ) (before now : Option SheetCells) → Left kind slots olds news items a b →
@@ -142,10 +142,10 @@ left_next kind slots olds news olds' news' items items' a b page before now h le
       old_under = under-left slots olds olds' page before old h.old_under;
       new_under = under-left slots news news' page now new h.new_under;
       done = ap (λ (r : Cells). r ++ with_coords slots rest) push
-        ∙ append_assoc items (with_coords slots here) (with_coords slots rest)
-        ∙ ap (λ (r : Cells). items ++ r) (sym (coords-append slots here rest))
-        ∙ ap (λ (r : List (ℕ × Cell)). items ++ with_coords slots r) (difference-step kind olds news olds' news' page before now h.old h.new t u)
-        ∙ h.done;
+          ∙ append_assoc items (with_coords slots here) (with_coords slots rest)
+          ∙ ap (λ (r : Cells). items ++ r) (sym (coords-append slots here rest))
+          ∙ ap (λ (r : List (ℕ × Cell)). items ++ with_coords slots r) (difference-step kind olds news olds' news' page before now h.old h.new t u)
+          ∙ h.done;
     }
   where
     coords-append : (slots : ℕ) (xs ys : List (ℕ × Cell)) → with_coords slots (xs ++ ys) ≡ with_coords slots xs ++ with_coords slots ys

@@ -9,3 +9,4 @@ pub mod Digits
 pub mod SheetDifferences
 pub mod GoingOver
 pub mod SameSheets
+pub mod Valid

@@ -82,8 +82,8 @@ module _ {X : Type 0} where
       let parts = both_true (below_all nat_cmp x.0 xs) (is_sorted nat_cmp xs) f in
       let ends = both_true (nat_lt x.0 between) (up_to between xs) upto in
       and_true (below_all nat_cmp x.0 (xs ++ ys)) (is_sorted nat_cmp (xs ++ ys))
-        (below-append x.0 xs ys parts.0 (below-from x.0 between ys ((Decides-ltb x.0 between).0 ends.0) from))
-        (is_sorted-append between xs ys parts.1 g ends.1 from)
+      (below-append x.0 xs ys parts.0 (below-from x.0 between ys ((Decides-ltb x.0 between).0 ends.0) from))
+      (is_sorted-append between xs ys parts.1 g ends.1 from)
 
   -- what starts later starts from here on too
   pub from_on-earlier : (low high : ℕ) (xs : List (ℕ × X)) → low ≤ high → from_on high xs ≡ true → from_on low xs ≡ true

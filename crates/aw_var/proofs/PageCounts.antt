@@ -127,7 +127,7 @@ length-next : (es : Sheets) (page : ℕ) (sheet : SheetCells) → is_sorted nat_
     length (next_sheets sheet page es) ≡ cond (list_all is_na sheet.1) (length es - cond (is_some (sheet_at es page)) 1 0) (cond (is_some (sheet_at es page)) (length es) (length es + 1))
 length-next es page sheet sorted =
     elim (list_all is_na sheet.1) as (λ b. length (cond b (where_key nat_cmp (λ k. not (eq_by_cmp nat_cmp page k)) es) (put nat_cmp page sheet es))
-        ≡ cond b (length es - cond (is_some (sheet_at es page)) 1 0) (cond (is_some (sheet_at es page)) (length es) (length es + 1))) [
+    ≡ cond b (length es - cond (is_some (sheet_at es page)) 1 0) (cond (is_some (sheet_at es page)) (length es) (length es + 1))) [
       | true ↦ fewer (is_some (find nat_cmp page es)) (length (where_key nat_cmp (λ k. not (eq_by_cmp nat_cmp page k)) es)) (length es) (length_without nat_cmp nat_cmp_total page es (to_T _ sorted))
           ∙ ap (λ (x : Option SheetCells). length es - cond (is_some x) 1 0) (sym (lookup-find page es))
       | false ↦ length-put nat_cmp nat_cmp_total page sheet es (to_T _ sorted)
@@ -137,7 +137,7 @@ length-next es page sheet sorted =
 -- how many pages there are after one cell is put
 pub pages-with : (kind : Kind) (es : Sheets) (n : ℕ) (cell : Cell) → AreSheets kind es → is_of_kind kind cell ≡ true →
     number_pages (set_of (all_numbered es) n cell) ≡
-      cond (list_all is_na (sheet_with kind es (n / 64) (n % 64) cell).1) (length es - cond (is_some (sheet_at es (n / 64))) 1 0) (cond (is_some (sheet_at es (n / 64))) (length es) (length es + 1))
+    cond (list_all is_na (sheet_with kind es (n / 64) (n % 64) cell).1) (length es - cond (is_some (sheet_at es (n / 64))) 1 0) (cond (is_some (sheet_at es (n / 64))) (length es) (length es + 1))
 pages-with kind es n cell h fits =
     let sheet = sheet_with kind es (n / 64) (n % 64) cell in
     let puts = PutsCell-next kind es (n / 64) (n % 64) cell h in
@@ -150,10 +150,10 @@ pub pages-bound : (kind : Kind) (es : Sheets) (n : ℕ) (cell : Cell) → AreShe
 pages-bound kind es n cell h fits =
     let count = length es in
     let bound : (a b : Bool) → cond a (count - cond b 1 0) (cond b count (count + 1)) ≤ count + 1 = λ a b.
-      elim a as (λ a. cond a (count - cond b 1 0) (cond b count (count + 1)) ≤ count + 1) [
-        | true ↦ omega arith
-        | false ↦ elim b as (λ b. cond b count (count + 1) ≤ count + 1) [ true ↦ omega arith | false ↦ omega arith ]
-      ] in
+    elim a as (λ a. cond a (count - cond b 1 0) (cond b count (count + 1)) ≤ count + 1) [
+      | true ↦ omega arith
+      | false ↦ elim b as (λ b. cond b count (count + 1) ≤ count + 1) [ true ↦ omega arith | false ↦ omega arith ]
+    ] in
     subst (λ x. x ≤ count + 1) (sym (pages-with kind es n cell h fits)) (bound (list_all is_na (sheet_with kind es (n / 64) (n % 64) cell).1) (is_some (sheet_at es (n / 64))))
 
 pages-is : (kind : Kind) (es : Sheets) (n : ℕ) (cell : Cell) (now : NumberedMap) → AreSheets kind es → shown kind es ≡ now → is_of_kind now.kind cell ≡ true →
@@ -169,16 +169,16 @@ pub pages-blank : (kind : Kind) (es : Sheets) (n : ℕ) (cell : Cell) (now : Num
     Some sheet ≡ sheet_at es (n / 64) → cell ≡ Na → list_all is_na (slice_set sheet.1 (n % 64) Na) ≡ true → length es - 1 ≡ number_pages (set_of now.cells n cell)
 pages-blank kind es n cell now sheet h is fits at na blank_now =
     pages-is kind es n cell now h is fits true true
-      (ap (λ (s : SheetCells). list_all is_na s.1) (with-is kind es (n / 64) (n % 64) cell sheet at) ∙ ap (λ x. list_all is_na (slice_set sheet.1 (n % 64) x)) na ∙ blank_now)
-      (ap (λ (x : Option SheetCells). is_some x) (sym at))
+    (ap (λ (s : SheetCells). list_all is_na s.1) (with-is kind es (n / 64) (n % 64) cell sheet at) ∙ ap (λ x. list_all is_na (slice_set sheet.1 (n % 64) x)) na ∙ blank_now)
+    (ap (λ (x : Option SheetCells). is_some x) (sym at))
 
 -- a sheet keeps some cell
 pub pages-kept : (kind : Kind) (es : Sheets) (n : ℕ) (cell : Cell) (now : NumberedMap) (sheet : SheetCells) → AreSheets kind es → shown kind es ≡ now → is_of_kind now.kind cell ≡ true →
     Some sheet ≡ sheet_at es (n / 64) → list_all is_na (slice_set sheet.1 (n % 64) cell) ≡ false → length es ≡ number_pages (set_of now.cells n cell)
 pages-kept kind es n cell now sheet h is fits at used =
     pages-is kind es n cell now h is fits false true
-      (ap (λ (s : SheetCells). list_all is_na s.1) (with-is kind es (n / 64) (n % 64) cell sheet at) ∙ used)
-      (ap (λ (x : Option SheetCells). is_some x) (sym at))
+    (ap (λ (s : SheetCells). list_all is_na s.1) (with-is kind es (n / 64) (n % 64) cell sheet at) ∙ used)
+    (ap (λ (x : Option SheetCells). is_some x) (sym at))
 
 pub pages-used : (kind : Kind) (es : Sheets) (n : ℕ) (cell : Cell) (now : NumberedMap) (sheet : SheetCells) → AreSheets kind es → shown kind es ≡ now → is_of_kind now.kind cell ≡ true →
     Some sheet ≡ sheet_at es (n / 64) → (cell ≡ Na → ⊥) → length es ≡ number_pages (set_of now.cells n cell)
@@ -191,15 +191,15 @@ pub pages-none : (kind : Kind) (es : Sheets) (n : ℕ) (cell : Cell) (now : Numb
 pages-none kind es n cell now h is fits at na =
     let whole : length es ≡ length es - 0 = omega arith in
     whole ∙ pages-is kind es n cell now h is fits true false
-      (ap (λ (s : SheetCells). list_all is_na s.1) (with-none kind es (n / 64) (n % 64) cell at) ∙ ap (λ x. list_all is_na (slice_set (replicate 64 Na) (n % 64) x)) na ∙ list_all-set is_na (replicate 64 Na) (n % 64) Na refl refl)
-      (ap (λ (x : Option SheetCells). is_some x) (sym at))
+    (ap (λ (s : SheetCells). list_all is_na s.1) (with-none kind es (n / 64) (n % 64) cell at) ∙ ap (λ x. list_all is_na (slice_set (replicate 64 Na) (n % 64) x)) na ∙ list_all-set is_na (replicate 64 Na) (n % 64) Na refl refl)
+    (ap (λ (x : Option SheetCells). is_some x) (sym at))
 
 pub pages-new : (kind : Kind) (es : Sheets) (n : ℕ) (cell : Cell) (now : NumberedMap) → AreSheets kind es → shown kind es ≡ now → is_of_kind now.kind cell ≡ true →
     None ≡ sheet_at es (n / 64) → (cell ≡ Na → ⊥) → length es + 1 ≡ number_pages (set_of now.cells n cell)
 pages-new kind es n cell now h is fits at some =
     pages-is kind es n cell now h is fits false false
-      (ap (λ (s : SheetCells). list_all is_na s.1) (with-none kind es (n / 64) (n % 64) cell at) ∙ used-set (replicate 64 Na) (n % 64) cell (omega arith) (present cell some))
-      (ap (λ (x : Option SheetCells). is_some x) (sym at))
+    (ap (λ (s : SheetCells). list_all is_na s.1) (with-none kind es (n / 64) (n % 64) cell at) ∙ used-set (replicate 64 Na) (n % 64) cell (omega arith) (present cell some))
+    (ap (λ (x : Option SheetCells). is_some x) (sym at))
 
 pub pages-most : (kind : Kind) (es : Sheets) (n : ℕ) (cell : Cell) (now : NumberedMap) → AreSheets kind es → shown kind es ≡ now → is_of_kind now.kind cell ≡ true →
     number_pages (set_of now.cells n cell) ≤ length es + 1
@@ -217,7 +217,7 @@ no_length (x ∷ es) e = absurd (omega arith)
 pub no_cells : (kind : Kind) (es : Sheets) (now : NumberedMap) (r : Bool) → AreSheets kind es → shown kind es ≡ now → (r ≡ true → length es ≡ 0) × (length es ≡ 0 → r ≡ true) → (r ≡ true → now.cells ≡ []) × (now.cells ≡ [] → r ≡ true)
 no_cells kind es now r h is tells = (
   λ t. ap (λ (m : NumberedMap). m.cells) (sym is) ∙ ap all_numbered (no_length es (tells.0 t)),
-  λ none. tells.1 (no_pages kind es h (ap (λ (m : NumberedMap). m.cells) is ∙ none))
+  λ none. tells.1 (no_pages kind es h (ap (λ (m : NumberedMap). m.cells) is ∙ none)),
 )
 
 pub not_more : (most n count : ℕ) → count < most → n ≤ count + 1 → (nat_le most count ≡ true → most < n) × (most < n → nat_le most count ≡ true)

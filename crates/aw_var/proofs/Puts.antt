@@ -96,10 +96,10 @@ pub AreSheets-put : (kind : Kind) (old new : Sheets) (page place : ℕ) (cell : 
 AreSheets-put kind old new page place cell h fits puts = record {
   ordered = puts.ordered;
   each = λ other sheet is.
-    elim (is_at (nat_cmp page) other) as (λ b. cond b (unless_blank (sheet_with kind old page place cell)) (sheet_at old other) ≡ Some sheet → IsSheet kind sheet) [
-      | true ↦ λ e. IsSheet-unless_blank kind (sheet_with kind old page place cell) sheet (IsWhole-with kind old page place cell h fits) e
-      | false ↦ λ e. h.each other sheet e
-    ] (sym (puts.sheets other) ∙ is);
+      elim (is_at (nat_cmp page) other) as (λ b. cond b (unless_blank (sheet_with kind old page place cell)) (sheet_at old other) ≡ Some sheet → IsSheet kind sheet) [
+        | true ↦ λ e. IsSheet-unless_blank kind (sheet_with kind old page place cell) sheet (IsWhole-with kind old page place cell h fits) e
+        | false ↦ λ e. h.each other sheet e
+      ] (sym (puts.sheets other) ∙ is);
 }
 
 here-put : (base : List Cell) (old : Option SheetCells) (q n : ℕ) (cell : Cell) → length base ≡ 64 → ((k : ℕ) → get_or base k Na ≡ cell_on old k) → q / 64 ≡ n / 64 →
@@ -123,22 +123,22 @@ pub all_numbered-put : (kind : Kind) (old new : Sheets) (n : ℕ) (cell : Cell) 
 all_numbered-put kind old new n cell h fits puts =
     let base = (unwrap_or (sheet_at old (n / 64)) (blank kind)).1 in
     same_map nat_cmp_total nat_cmp-IsAntisymmetric (all_numbered new) (set_of (all_numbered old) n cell)
-      (IsMapBy-all kind new (AreSheets-put kind old new (n / 64) (n % 64) cell h fits puts))
-      (IsMapBy-set nat_cmp_total n cell (all_numbered old) (IsMapBy-all kind old h))
-      (λ q.
-        cell_of-all kind q new (AreSheets-put kind old new (n / 64) (n % 64) cell h fits puts)
-        ∙ ap (λ s. cell_on s (q % 64)) (puts.sheets (q / 64))
-        ∙ ap (λ b. cell_on (cond b (unless_blank (sheet_with kind old (n / 64) (n % 64) cell)) (sheet_at old (q / 64))) (q % 64)) ((eq_by_cmp_equiv nat_cmp_total).symm (n / 64) (q / 64))
-        ∙ elim (is_eq (nat_cmp (q / 64) (n / 64))) as (λ b. is_eq (nat_cmp (q / 64) (n / 64)) ≡ b →
-            cell_on (cond b (unless_blank (sheet_with kind old (n / 64) (n % 64) cell)) (sheet_at old (q / 64))) (q % 64) ≡ cond (is_eq (nat_cmp q n)) cell (cell_on (sheet_at old (q / 64)) (q % 64))) [
-          | true ↦ λ e. let same : q / 64 ≡ n / 64 = nat_cmp-IsAntisymmetric (q / 64) (n / 64) (equal_of _ e) in
-              cell_on-unless_blank (sheet_with kind old (n / 64) (n % 64) cell) (q % 64)
-              ∙ here-put base (sheet_at old (n / 64)) q n cell (IsWhole-base kind old (n / 64) h).size (λ k. cell_on-base kind (sheet_at old (n / 64)) k) same
-              ∙ ap (λ p. cond (is_eq (nat_cmp q n)) cell (cell_on (sheet_at old p) (q % 64))) (sym same)
-          | false ↦ λ e. ap (λ b. cond b cell (cell_on (sheet_at old (q / 64)) (q % 64))) (sym (elsewhere q n e))
-        ] refl
-        ∙ ap (λ x. cond (is_eq (nat_cmp q n)) cell x) (sym (cell_of-all kind q old h))
-        ∙ sym (cell-set nat_cmp_total q n cell (all_numbered old)))
+    (IsMapBy-all kind new (AreSheets-put kind old new (n / 64) (n % 64) cell h fits puts))
+    (IsMapBy-set nat_cmp_total n cell (all_numbered old) (IsMapBy-all kind old h))
+    (λ q.
+    cell_of-all kind q new (AreSheets-put kind old new (n / 64) (n % 64) cell h fits puts)
+    ∙ ap (λ s. cell_on s (q % 64)) (puts.sheets (q / 64))
+    ∙ ap (λ b. cell_on (cond b (unless_blank (sheet_with kind old (n / 64) (n % 64) cell)) (sheet_at old (q / 64))) (q % 64)) ((eq_by_cmp_equiv nat_cmp_total).symm (n / 64) (q / 64))
+    ∙ elim (is_eq (nat_cmp (q / 64) (n / 64))) as (λ b. is_eq (nat_cmp (q / 64) (n / 64)) ≡ b →
+    cell_on (cond b (unless_blank (sheet_with kind old (n / 64) (n % 64) cell)) (sheet_at old (q / 64))) (q % 64) ≡ cond (is_eq (nat_cmp q n)) cell (cell_on (sheet_at old (q / 64)) (q % 64))) [
+      | true ↦ λ e. let same : q / 64 ≡ n / 64 = nat_cmp-IsAntisymmetric (q / 64) (n / 64) (equal_of _ e) in
+          cell_on-unless_blank (sheet_with kind old (n / 64) (n % 64) cell) (q % 64)
+          ∙ here-put base (sheet_at old (n / 64)) q n cell (IsWhole-base kind old (n / 64) h).size (λ k. cell_on-base kind (sheet_at old (n / 64)) k) same
+          ∙ ap (λ p. cond (is_eq (nat_cmp q n)) cell (cell_on (sheet_at old p) (q % 64))) (sym same)
+      | false ↦ λ e. ap (λ b. cond b cell (cell_on (sheet_at old (q / 64)) (q % 64))) (sym (elsewhere q n e))
+    ] refl
+    ∙ ap (λ x. cond (is_eq (nat_cmp q n)) cell x) (sym (cell_of-all kind q old h))
+    ∙ sym (cell-set nat_cmp_total q n cell (all_numbered old)))
 
 -- so it is after a call that may want memory, and then leaves the sheets
 pub AreSheets-after : (kind : Kind) (old new : Sheets) (n : ℕ) (cell : Cell) (r : Result (Unit {0}) AllocError) → AreSheets kind old → is_of_kind kind cell ≡ true →
@@ -221,7 +221,7 @@ pub PutsCell-used : (kind : Kind) (old new : Sheets) (page place : ℕ) (cell : 
 PutsCell-used kind old new page place cell sheet w is used = record {
   ordered = w.ordered;
   sheets = λ other. w.sheets other ∙ ap (λ x. cond (is_at (nat_cmp page) other) x (sheet_at old other))
-    (ap (λ b. cond b None (Some sheet)) (sym used) ∙ ap unless_blank (sym is));
+      (ap (λ b. cond b None (Some sheet)) (sym used) ∙ ap unless_blank (sym is));
 }
 
 pub PutsCell-some : (kind : Kind) (old new : Sheets) (page place : ℕ) (cell : Cell) (sheet : SheetCells) → AreSheets kind old → place < 64 → (cell ≡ Na → ⊥) →
@@ -255,8 +255,8 @@ pub PutsCell-blank : (kind : Kind) (old between new : Sheets) (page place : ℕ)
 PutsCell-blank kind old between new page place cell sheet is w blank_now ordered out = record {
   ordered = ordered;
   sheets = λ other. out other ∙ ap (λ x. cond (is_at (nat_cmp page) other) None x) (w.sheets other)
-    ∙ elim (is_at (nat_cmp page) other) as (λ b. cond b None (cond b (Some (sheet.0, slice_set sheet.1 place cell)) (sheet_at old other)) ≡ cond b None (sheet_at old other)) [ true ↦ refl | false ↦ refl ]
-    ∙ ap (λ x. cond (is_at (nat_cmp page) other) x (sheet_at old other)) (ap (λ b. cond b None (Some (sheet.0, slice_set sheet.1 place cell))) (sym blank_now) ∙ ap unless_blank (sym (with-is kind old page place cell sheet is)));
+      ∙ elim (is_at (nat_cmp page) other) as (λ b. cond b None (cond b (Some (sheet.0, slice_set sheet.1 place cell)) (sheet_at old other)) ≡ cond b None (sheet_at old other)) [ true ↦ refl | false ↦ refl ]
+      ∙ ap (λ x. cond (is_at (nat_cmp page) other) x (sheet_at old other)) (ap (λ b. cond b None (Some (sheet.0, slice_set sheet.1 place cell))) (sym blank_now) ∙ ap unless_blank (sym (with-is kind old page place cell sheet is)));
 }
 
 pub is_there : (o : Option SheetCells) (sheet : SheetCells) → Some sheet ≡ o → IsSome o
@@ -271,7 +271,7 @@ pub PutsCell-after : (kind : Kind) (old new : BTreeMap ℕ SheetCells) (page pla
     WritesThrough nat_cmp (nat_cmp page) old now new → OnOk r (PutsCell kind old.entries new.entries page place cell)
 PutsCell-after kind old new page place cell sheet now (Ok u) h within some is ok w =
     PutsCell-some kind old.entries new.entries page place cell sheet h within some is
-      (subst (λ (x : SheetCells). Writes old.entries new.entries page x) ok (Writes-back old new page now sheet is w))
+    (subst (λ (x : SheetCells). Writes old.entries new.entries page x) ok (Writes-back old new page now sheet is w))
 PutsCell-after kind old new page place cell sheet now (Err e) h within some is ok w = tt
 
 -- what was not changed stays
@@ -297,5 +297,5 @@ PutsCell-inserted kind old between new page place cell sheet now same within som
     PutsCell-new kind old.entries new.entries page place cell within some is (record {
       ordered = ordered;
       sheets = λ other. sheets other ∙ ap (λ (x : SheetCells). cond (is_at (nat_cmp page) other) (Some x) (sheet_at between.entries other)) all
-        ∙ ap (λ (m : BTreeMap ℕ SheetCells). cond (is_at (nat_cmp page) other) (Some (is_text_kind kind, slice_set (replicate 64 Na) place cell)) (sheet_at m.entries other)) same;
+          ∙ ap (λ (m : BTreeMap ℕ SheetCells). cond (is_at (nat_cmp page) other) (Some (is_text_kind kind, slice_set (replicate 64 Na) place cell)) (sheet_at m.entries other)) same;
     })

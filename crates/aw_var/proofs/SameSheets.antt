@@ -55,14 +55,14 @@ one_sheet kind (Some x) (Some y) f g same =
 pub same_sheets : (kind : Kind) (xs ys : Sheets) → AreSheets kind xs → AreSheets kind ys → all_numbered xs ≡ all_numbered ys → xs ≡ ys
 same_sheets kind xs ys f g same =
     same_entries nat_cmp nat_cmp_total nat_cmp-IsAntisymmetric xs ys (to_T _ (is_sorted_of xs f.ordered)) (to_T _ (is_sorted_of ys g.ordered)) (λ page.
-      sym (lookup-find page xs)
-      ∙ one_sheet kind (sheet_at xs page) (sheet_at ys page) (f.each page) (g.each page) (λ k h.
-          let p : (64 * page + k) / 64 ≡ page = omega arith in
-          let r : (64 * page + k) % 64 ≡ k = omega arith in
-          sym (cell_of-all kind (64 * page + k) xs f ∙ (λ i. cell_on (sheet_at xs (p i)) (r i)))
-          ∙ ap (λ cells. cell_of cells (64 * page + k)) same
-          ∙ cell_of-all kind (64 * page + k) ys g ∙ (λ i. cell_on (sheet_at ys (p i)) (r i)))
-      ∙ lookup-find page ys)
+    sym (lookup-find page xs)
+    ∙ one_sheet kind (sheet_at xs page) (sheet_at ys page) (f.each page) (g.each page) (λ k h.
+    let p : (64 * page + k) / 64 ≡ page = omega arith in
+    let r : (64 * page + k) % 64 ≡ k = omega arith in
+    sym (cell_of-all kind (64 * page + k) xs f ∙ (λ i. cell_on (sheet_at xs (p i)) (r i)))
+    ∙ ap (λ cells. cell_of cells (64 * page + k)) same
+    ∙ cell_of-all kind (64 * page + k) ys g ∙ (λ i. cell_on (sheet_at ys (p i)) (r i)))
+    ∙ lookup-find page ys)
 
 abbrev pub sheet_eq : SheetCells → SheetCells → Bool
 sheet_eq one other = beq one.0 other.0 && pointwise same_cell one.1 other.1
@@ -70,16 +70,18 @@ sheet_eq one other = beq one.0 other.0 && pointwise same_cell one.1 other.1
 sheet_eq-Decides : (a b : SheetCells) → Decides (sheet_eq a b) (a ≡ b)
 sheet_eq-Decides a b =
     let d = booleans_Decides a.0 b.0 in
-    let e = slice_eq-Decides same_cell-Decides a.1 b.1 (pointwise same_cell a.1 b.1) refl in
-    (λ t. let parts = both_true (beq a.0 b.0) (pointwise same_cell a.1 b.1) t in (λ i. (d.0 parts.0 i, e.0 parts.1 i)),
-     λ s. and_true (beq a.0 b.0) (pointwise same_cell a.1 b.1) (d.1 (ap (λ (x : SheetCells). x.0) s)) (e.1 (ap (λ (x : SheetCells). x.1) s)))
+    let e = slice_eq-Decides same_cell-Decides a.1 b.1 (pointwise same_cell a.1 b.1) refl in (
+      λ t. let parts = both_true (beq a.0 b.0) (pointwise same_cell a.1 b.1) t in (λ i. (d.0 parts.0 i, e.0 parts.1 i)),
+      λ s. and_true (beq a.0 b.0) (pointwise same_cell a.1 b.1) (d.1 (ap (λ (x : SheetCells). x.0) s)) (e.1 (ap (λ (x : SheetCells). x.1) s)),
+    )
 
 -- what `==` of two maps of sheets says
 pub equal_maps : (kind kind' : Kind) (m n : BTreeMap ℕ SheetCells) (a b : NumberedMap) (r : Bool) → AreSheets kind m.entries → AreSheets kind' n.entries → shown kind m.entries ≡ a → shown kind' n.entries ≡ b → a.kind ≡ b.kind →
     r ≡ pointwise (λ (p q : ℕ × SheetCells). nat_eq p.0 q.0 && sheet_eq p.1 q.1) m.entries n.entries → (r ≡ true → a ≡ b) × (a ≡ b → r ≡ true)
 equal_maps kind kind' m n a b r f g is was same e =
     let kinds : kind ≡ kind' = ap (λ (x : NumberedMap). x.kind) is ∙ same ∙ ap (λ (x : NumberedMap). x.kind) (sym was) in
-    let d = btree_map_eq-Decides Decides-eqb sheet_eq-Decides m n r e in
-    (λ t. sym is ∙ (λ i. shown (kinds i) (d.0 t i)) ∙ was,
-     λ s. d.1 (same_sheets kind m.entries n.entries f (subst (λ (k : Kind). AreSheets k n.entries) (sym kinds) g)
-       (ap (λ (x : NumberedMap). x.cells) is ∙ ap (λ (x : NumberedMap). x.cells) s ∙ ap (λ (x : NumberedMap). x.cells) (sym was))))
+    let d = btree_map_eq-Decides Decides-eqb sheet_eq-Decides m n r e in (
+      λ t. sym is ∙ (λ i. shown (kinds i) (d.0 t i)) ∙ was,
+      λ s. d.1 (same_sheets kind m.entries n.entries f (subst (λ (k : Kind). AreSheets k n.entries) (sym kinds) g)
+          (ap (λ (x : NumberedMap). x.cells) is ∙ ap (λ (x : NumberedMap). x.cells) s ∙ ap (λ (x : NumberedMap). x.cells) (sym was))),
+    )

@@ -49,8 +49,8 @@ keys-na p (e ∷ es) all = let parts = both_true (p e.0) (keys p es) all in and_
 pub keys-difference : (p : ℕ → Bool) (a b : List (ℕ × Cell)) → keys p a ≡ true → keys p b ≡ true → keys p (difference_of a b) ≡ true
 keys-difference p a b f g =
     keys-composed p (taken_away_by nat_cmp a b) (where_key nat_cmp (differ_by nat_cmp a b) b)
-      (keys-na p (where_key nat_cmp (λ n. is_na (cell_of b n)) a) (list_all-filter (λ pair. p pair.0) (λ e. is_na (cell_of b e.0)) a f))
-      (list_all-filter (λ pair. p pair.0) (λ e. differ_by nat_cmp a b e.0) b g)
+    (keys-na p (where_key nat_cmp (λ n. is_na (cell_of b n)) a) (list_all-filter (λ pair. p pair.0) (λ e. is_na (cell_of b e.0)) a f))
+    (list_all-filter (λ pair. p pair.0) (λ e. differ_by nat_cmp a b e.0) b g)
 
 -- sheets in order, all of one kind
 pub record Ordered (kind : Kind) (sheets : Sheets) : Type 0 where
@@ -84,7 +84,10 @@ later_all page e es below h = and_true (is_lt (nat_cmp page e.0)) (below_all nat
     further low high (x ∷ xs) h below =
         let parts = both_true (is_lt (nat_cmp high x.0)) (below_all nat_cmp high xs) below in
         let more : high < x.0 = elim (nat_cmp high x.0) as (λ r. is_lt r ≡ true → MatchOrdering r (high < x.0) (high ≡ x.0) (x.0 < high) → high < x.0) [
-          | Less ↦ λ _ l. l | Equal ↦ λ n _. cc | Greater ↦ λ n _. cc ] parts.0 (ranked high x.0 (nat_cmp high x.0) refl) in
+          | Less ↦ λ _ l. l
+          | Equal ↦ λ n _. cc
+          | Greater ↦ λ n _. cc
+        ] parts.0 (ranked high x.0 (nat_cmp high x.0) refl) in
         and_true (is_lt (nat_cmp low x.0)) (below_all nat_cmp low xs) (lt_true low x.0 (omega arith)) (further low high xs h parts.1)
 
 taken-none : (kind : Kind) (es : Sheets) (page : ℕ) → Ordered kind es → below_all nat_cmp page es ≡ true → Taken kind es es page None
@@ -162,8 +165,8 @@ find-changes before now from place zero q k e low high = absurd (omega arith)
 find-changes before now from place (suc left) q k e low high =
     let later = changes_on before now from (place + 1) left in
     elim (nat_cmp q (from + place)) as (λ r. nat_cmp q (from + place) ≡ r → MatchOrdering r (q < from + place) (q ≡ from + place) (from + place < q) →
-        find nat_cmp q (cond (same_cell (cell_on before place) (cell_on now place)) (changes_on before now from (place + 1) left) ((from + place, cell_on now place) ∷ changes_on before now from (place + 1) left))
-        ≡ cond (not (same_cell (cell_on before k) (cell_on now k))) (Some (cell_on now k)) None) [
+    find nat_cmp q (cond (same_cell (cell_on before place) (cell_on now place)) (changes_on before now from (place + 1) left) ((from + place, cell_on now place) ∷ changes_on before now from (place + 1) left))
+    ≡ cond (not (same_cell (cell_on before k) (cell_on now k))) (Some (cell_on now k)) None) [
       | Less ↦ λ _ h. absurd (omega arith)
       | Equal ↦ λ tied h.
           let same : place ≡ k = omega arith in
@@ -196,28 +199,28 @@ difference-step kind olds news olds' news' page before now f g old new =
     let fa' = IsMapBy-ordered kind olds' old.ordered in
     let gb' = IsMapBy-ordered kind news' new.ordered in
     is_difference nat_cmp_total nat_cmp-IsAntisymmetric a b (here ++ difference_of a' b') (IsMapBy-ordered kind olds f) (IsMapBy-ordered kind news g)
-      (is_sorted-append (64 * (page + 1)) here (difference_of a' b') (changes-sorted before now (64 * page) 0 64) (is_sorted-difference nat_cmp_total nat_cmp-IsAntisymmetric a' b' fa')
-        (changes-up_to before now (64 * page) 0 64 (64 * (page + 1)) (omega arith)) (keys-difference (λ n. nat_le (64 * (page + 1)) n) a' b' old.later new.later))
-      (λ q.
-        let ca = cell_of-ordered kind q olds f in
-        let cb = cell_of-ordered kind q news g in
-        let rest = find-difference nat_cmp_total nat_cmp-IsAntisymmetric q a' b' fa' gb' in
-        find-append q here (difference_of a' b')
-        ∙ ap (λ r. either (find nat_cmp q here) r) (rest ∙ (λ i. cond (not (same_cell (cell_of-ordered kind q olds' old.ordered i) (cell_of-ordered kind q news' new.ordered i))) (Some (cell_of-ordered kind q news' new.ordered i)) None))
-        ∙ elim (nat_cmp (q / 64) page) as (λ r. MatchOrdering r (q / 64 < page) (q / 64 ≡ page) (page < q / 64) →
-            either (find nat_cmp q here) (cond (not (same_cell (cell_on (sheet_at olds' (q / 64)) (q % 64)) (cell_on (sheet_at news' (q / 64)) (q % 64)))) (Some (cell_on (sheet_at news' (q / 64)) (q % 64))) None)
-            ≡ cond (not (same_cell (cell_on (sheet_at olds (q / 64)) (q % 64)) (cell_on (sheet_at news (q / 64)) (q % 64)))) (Some (cell_on (sheet_at news (q / 64)) (q % 64))) None) [
-          | Less ↦ λ h. elsewhere q olds news olds' news' page before now old.others new.others (λ (s : q / 64 ≡ page). omega arith)
-              (find-below q (64 * page) here (omega arith) (changes-from before now (64 * page) 0 64 (64 * page) (omega arith)))
-          | Equal ↦ λ h.
-              (λ i. either (find nat_cmp q here) (cond (not (same_cell (cell_on ((ap (λ p. sheet_at olds' p) h ∙ old.gone) i) (q % 64)) (cell_on ((ap (λ p. sheet_at news' p) h ∙ new.gone) i) (q % 64)))) (Some (cell_on ((ap (λ p. sheet_at news' p) h ∙ new.gone) i) (q % 64))) None))
-              ∙ either-none (find nat_cmp q here)
-              ∙ find-changes before now (64 * page) 0 64 q (q % 64) (omega arith) (omega arith) (omega arith)
-              ∙ (λ i. cond (not (same_cell (cell_on ((sym old.here ∙ ap (λ p. sheet_at olds p) (sym h)) i) (q % 64)) (cell_on ((sym new.here ∙ ap (λ p. sheet_at news p) (sym h)) i) (q % 64)))) (Some (cell_on ((sym new.here ∙ ap (λ p. sheet_at news p) (sym h)) i) (q % 64))) None)
-          | Greater ↦ λ h. elsewhere q olds news olds' news' page before now old.others new.others (λ (s : q / 64 ≡ page). omega arith)
-              (find-above q (64 * (page + 1)) here (omega arith) (changes-up_to before now (64 * page) 0 64 (64 * (page + 1)) (omega arith)))
-        ] (ranked (q / 64) page (nat_cmp (q / 64) page) refl)
-        ∙ (λ i. cond (not (same_cell (sym ca i) (sym cb i))) (Some (sym cb i)) None))
+    (is_sorted-append (64 * (page + 1)) here (difference_of a' b') (changes-sorted before now (64 * page) 0 64) (is_sorted-difference nat_cmp_total nat_cmp-IsAntisymmetric a' b' fa')
+    (changes-up_to before now (64 * page) 0 64 (64 * (page + 1)) (omega arith)) (keys-difference (λ n. nat_le (64 * (page + 1)) n) a' b' old.later new.later))
+    (λ q.
+    let ca = cell_of-ordered kind q olds f in
+    let cb = cell_of-ordered kind q news g in
+    let rest = find-difference nat_cmp_total nat_cmp-IsAntisymmetric q a' b' fa' gb' in
+    find-append q here (difference_of a' b')
+    ∙ ap (λ r. either (find nat_cmp q here) r) (rest ∙ (λ i. cond (not (same_cell (cell_of-ordered kind q olds' old.ordered i) (cell_of-ordered kind q news' new.ordered i))) (Some (cell_of-ordered kind q news' new.ordered i)) None))
+    ∙ elim (nat_cmp (q / 64) page) as (λ r. MatchOrdering r (q / 64 < page) (q / 64 ≡ page) (page < q / 64) →
+    either (find nat_cmp q here) (cond (not (same_cell (cell_on (sheet_at olds' (q / 64)) (q % 64)) (cell_on (sheet_at news' (q / 64)) (q % 64)))) (Some (cell_on (sheet_at news' (q / 64)) (q % 64))) None)
+    ≡ cond (not (same_cell (cell_on (sheet_at olds (q / 64)) (q % 64)) (cell_on (sheet_at news (q / 64)) (q % 64)))) (Some (cell_on (sheet_at news (q / 64)) (q % 64))) None) [
+      | Less ↦ λ h. elsewhere q olds news olds' news' page before now old.others new.others (λ (s : q / 64 ≡ page). omega arith)
+          (find-below q (64 * page) here (omega arith) (changes-from before now (64 * page) 0 64 (64 * page) (omega arith)))
+      | Equal ↦ λ h.
+          (λ i. either (find nat_cmp q here) (cond (not (same_cell (cell_on ((ap (λ p. sheet_at olds' p) h ∙ old.gone) i) (q % 64)) (cell_on ((ap (λ p. sheet_at news' p) h ∙ new.gone) i) (q % 64)))) (Some (cell_on ((ap (λ p. sheet_at news' p) h ∙ new.gone) i) (q % 64))) None))
+          ∙ either-none (find nat_cmp q here)
+          ∙ find-changes before now (64 * page) 0 64 q (q % 64) (omega arith) (omega arith) (omega arith)
+          ∙ (λ i. cond (not (same_cell (cell_on ((sym old.here ∙ ap (λ p. sheet_at olds p) (sym h)) i) (q % 64)) (cell_on ((sym new.here ∙ ap (λ p. sheet_at news p) (sym h)) i) (q % 64)))) (Some (cell_on ((sym new.here ∙ ap (λ p. sheet_at news p) (sym h)) i) (q % 64))) None)
+      | Greater ↦ λ h. elsewhere q olds news olds' news' page before now old.others new.others (λ (s : q / 64 ≡ page). omega arith)
+          (find-above q (64 * (page + 1)) here (omega arith) (changes-up_to before now (64 * page) 0 64 (64 * (page + 1)) (omega arith)))
+    ] (ranked (q / 64) page (nat_cmp (q / 64) page) refl)
+    ∙ (λ i. cond (not (same_cell (sym ca i) (sym cb i))) (Some (sym cb i)) None))
   where
     elsewhere : (q : ℕ) (olds news olds' news' : Sheets) (page : ℕ) (before now : Option SheetCells) →
         ((other : ℕ) → (other ≡ page → ⊥) → sheet_at olds other ≡ sheet_at olds' other) → ((other : ℕ) → (other ≡ page → ⊥) → sheet_at news other ≡ sheet_at news' other) →

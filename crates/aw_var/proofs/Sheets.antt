@@ -118,9 +118,12 @@ all_numbered-from kind k [] h = refl
 all_numbered-from kind k (e ∷ es) h =
     let parts = both_true (is_lt (nat_cmp k e.0)) (below_all nat_cmp k es) h in
     let less : k < e.0 = elim (nat_cmp k e.0) as (λ r. is_lt r ≡ true → MatchOrdering r (k < e.0) (k ≡ e.0) (e.0 < k) → k < e.0) [
-      | Less ↦ λ _ l. l | Equal ↦ λ n _. cc | Greater ↦ λ n _. cc ] parts.0 (ranked k e.0 (nat_cmp k e.0) refl) in
+      | Less ↦ λ _ l. l
+      | Equal ↦ λ n _. cc
+      | Greater ↦ λ n _. cc
+    ] parts.0 (ranked k e.0 (nat_cmp k e.0) refl) in
     list_all-append (λ pair. nat_le (64 * (k + 1)) pair.0) (numbered (64 * e.0) e.1.1) (all_numbered es)
-      (numbered-from (64 * (k + 1)) (64 * e.0) e.1.1 (omega arith)) (all_numbered-from kind k es parts.1)
+    (numbered-from (64 * (k + 1)) (64 * e.0) e.1.1 (omega arith)) (all_numbered-from kind k es parts.1)
 
 pub is_sorted-all : (kind : Kind) (es : Sheets) → is_sorted nat_cmp es ≡ true → EachSheet kind es → is_sorted nat_cmp (all_numbered es) ≡ true
 is_sorted-all kind [] sorted each = refl
@@ -128,7 +131,7 @@ is_sorted-all kind (e ∷ es) sorted each =
     let parts = both_true (below_all nat_cmp e.0 es) (is_sorted nat_cmp es) sorted in
     let size : length e.1.1 ≡ 64 = each.0.size in
     is_sorted-append (64 * (e.0 + 1)) (numbered (64 * e.0) e.1.1) (all_numbered es) (is_sorted-numbered (64 * e.0) e.1.1) (is_sorted-all kind es parts.1 each.1)
-      (numbered-up_to (64 * (e.0 + 1)) (64 * e.0) e.1.1 (omega arith)) (all_numbered-from kind e.0 es parts.0)
+    (numbered-up_to (64 * (e.0 + 1)) (64 * e.0) e.1.1 (omega arith)) (all_numbered-from kind e.0 es parts.0)
 
 pub present-all : (es : Sheets) → list_all (λ pair. not (is_na pair.1)) (all_numbered es) ≡ true
 present-all [] = refl
@@ -157,7 +160,7 @@ find-all kind q (e ∷ es) sorted each =
     find-append q (numbered (64 * e.0) e.1.1) (all_numbered es)
     ∙ ap (λ r. either (find nat_cmp q (numbered (64 * e.0) e.1.1)) r) rest
     ∙ elim (nat_cmp (q / 64) e.0) as (λ r. MatchOrdering r (q / 64 < e.0) (q / 64 ≡ e.0) (e.0 < q / 64) →
-        either (find nat_cmp q (numbered (64 * e.0) e.1.1)) (found_on (sheet_at es (q / 64)) (q % 64)) ≡ found_on (cond (is_eq r) (Some e.1) (sheet_at es (q / 64))) (q % 64)) [
+    either (find nat_cmp q (numbered (64 * e.0) e.1.1)) (found_on (sheet_at es (q / 64)) (q % 64)) ≡ found_on (cond (is_eq r) (Some e.1) (sheet_at es (q / 64))) (q % 64)) [
       | Less ↦ λ h. ap (λ r. either r (found_on (sheet_at es (q / 64)) (q % 64))) (find-below q (64 * e.0) (numbered (64 * e.0) e.1.1) (omega arith) (numbered-from (64 * e.0) (64 * e.0) e.1.1 (omega arith)))
       | Equal ↦ λ h. ap (λ s. either (find nat_cmp q (numbered (64 * e.0) e.1.1)) (found_on s (q % 64))) (sheet_at-absent (q / 64) e.0 es parts.0 h)
           ∙ either-none (find nat_cmp q (numbered (64 * e.0) e.1.1)) ∙ find-numbered q (64 * e.0) (q % 64) e.1.1 (omega arith)

@@ -113,9 +113,9 @@ module _ (slots : ℕ) where
   put-coords q c (e ∷ es) h all =
       let rest = put-coords q c es h (at_tail e es all) in
       ap (λ r. by_order r ((unpacked slots q, c) ∷ (unpacked slots e.0, e.1) ∷ with_coords slots es) ((unpacked slots e.0, c) ∷ with_coords slots es) ((unpacked slots e.0, e.1) ∷ put by_slots (unpacked slots q) c (with_coords slots es)))
-        (by_slots-unpacked slots q e.0 h (at_head e es all))
+      (by_slots-unpacked slots q e.0 h (at_head e es all))
       ∙ elim (nat_cmp q e.0) as (λ r. by_order r ((unpacked slots q, c) ∷ (unpacked slots e.0, e.1) ∷ with_coords slots es) ((unpacked slots e.0, c) ∷ with_coords slots es) ((unpacked slots e.0, e.1) ∷ put by_slots (unpacked slots q) c (with_coords slots es))
-          ≡ with_coords slots (by_order r ((q, c) ∷ e ∷ es) ((e.0, c) ∷ es) (e ∷ put nat_cmp q c es))) [
+      ≡ with_coords slots (by_order r ((q, c) ∷ e ∷ es) ((e.0, c) ∷ es) (e ∷ put nat_cmp q c es))) [
         | Less ↦ refl
         | Equal ↦ refl
         | Greater ↦ ap (λ (r : Cells). (unpacked slots e.0, e.1) ∷ r) rest
@@ -159,12 +159,12 @@ module _ (slots : ℕ) where
   difference-coords a b f g =
       let gone = where_key nat_cmp (λ n. is_na (cell_of b n)) a in
       (λ i. composed_by by_slots
-        ((ap (λ (r : Cells). map (λ pair. (pair.0, Na)) r) (where-coords (λ key. is_na (cell_at (with_coords slots b) key)) (λ n. is_na (cell_of b n)) a (λ n h. ap is_na (cell-coords n b h g)) f) ∙ na-coords gone) i)
-        (where-coords (differ_by by_slots (with_coords slots a) (with_coords slots b)) (differ_by nat_cmp a b) b
-          (λ n h j. not (same_cell (cell-coords n a h f j) (cell-coords n b h g j))) g i))
+      ((ap (λ (r : Cells). map (λ pair. (pair.0, Na)) r) (where-coords (λ key. is_na (cell_at (with_coords slots b) key)) (λ n. is_na (cell_of b n)) a (λ n h. ap is_na (cell-coords n b h g)) f) ∙ na-coords gone) i)
+      (where-coords (differ_by by_slots (with_coords slots a) (with_coords slots b)) (differ_by nat_cmp a b) b
+      (λ n h j. not (same_cell (cell-coords n a h f j) (cell-coords n b h g j))) g i))
       ∙ composed-coords (taken_away_by nat_cmp a b) (where_key nat_cmp (differ_by nat_cmp a b) b)
-          (below-na gone (list_all-filter (λ pair. nat_lt pair.0 (65536 ^ slots)) (λ e. is_na (cell_of b e.0)) a f))
-          (list_all-filter (λ pair. nat_lt pair.0 (65536 ^ slots)) (λ e. differ_by nat_cmp a b e.0) b g)
+      (below-na gone (list_all-filter (λ pair. nat_lt pair.0 (65536 ^ slots)) (λ e. is_na (cell_of b e.0)) a f))
+      (list_all-filter (λ pair. nat_lt pair.0 (65536 ^ slots)) (λ e. differ_by nat_cmp a b e.0) b g)
 
 -- what a variable shows of its numbered cells
 abbrev pub contents : ℕ → Kind → List (ℕ × Cell) → Contents
@@ -206,7 +206,7 @@ pub contents-after : (slots : ℕ) (key : List ℕ) (cell : Cell) (old new : Num
 contents-after slots key cell old new now (Ok u) each size numbers ok is =
     ap (λ (m : NumberedMap). contents slots m.kind m.cells) ok
     ∙ (let e = set-key slots key cell old.cells each size numbers in
-       let here : contents slots old.kind (set_of old.cells (packed key) cell) ≡ with_cell (contents slots old.kind old.cells) key cell = λ i. record { slots = slots; kind = old.kind; cells = e i } in here)
+    let here : contents slots old.kind (set_of old.cells (packed key) cell) ≡ with_cell (contents slots old.kind old.cells) key cell = λ i. record { slots = slots; kind = old.kind; cells = e i } in here)
     ∙ ap (λ (c : Contents). with_cell c key cell) is
 contents-after slots key cell old new now (Err e) each size numbers ok is = tt
 
@@ -251,3 +251,41 @@ difference-after slots slots' one other a b (Ok patch) is was same f g ok =
     ok ∙ sym (difference-coords slots other.cells one.cells h.below f.below)
     ∙ (λ i. difference ((ap (λ n. with_coords n other.cells) e ∙ ap (λ (c : Contents). c.cells) was) i) (is i).cells)
 difference-after slots slots' one other a b (Err e) is was same f g ok = tt
+
+with_numbers : Cells → List (ℕ × Cell)
+with_numbers cells = map (λ pair. (packed pair.0, pair.1)) cells
+
+with_numbers-coords : (slots : ℕ) (cells : List (ℕ × Cell)) → below slots cells ≡ true → with_numbers (with_coords slots cells) ≡ cells
+unfolding with_numbers
+with_numbers-coords slots [] all = refl
+with_numbers-coords slots (e ∷ es) all =
+    let parts = both_true (nat_lt e.0 (65536 ^ slots)) (below slots es) all in
+    λ i. (packed-unpacked slots e.0 ((Decides-ltb e.0 (65536 ^ slots)).0 parts.0) i, e.1) ∷ with_numbers-coords slots es parts.1 i
+
+-- variables are the same where their numbered cells are
+pub same-numbers : (slots slots' : ℕ) (one other : NumberedMap) (a b : Contents) → AreNumbersOf slots one.cells → AreNumbersOf slots' other.cells → contents slots one.kind one.cells ≡ a → contents slots' other.kind other.cells ≡ b →
+    a ≡ b → (slots ≡ slots') × (one ≡ other)
+same-numbers slots slots' one other a b f g is was same =
+    let all : contents slots one.kind one.cells ≡ contents slots' other.kind other.cells = is ∙ same ∙ sym was in
+    let size : slots ≡ slots' = ap (λ (c : Contents). c.slots) all in
+    let kind : one.kind ≡ other.kind = ap (λ (c : Contents). c.kind) all in
+    let cells : one.cells ≡ other.cells =
+    sym (with_numbers-coords slots one.cells f.below) ∙ ap (λ (c : Contents). with_numbers c.cells) all ∙ with_numbers-coords slots' other.cells g.below in
+    (size, λ i. record { kind = kind i; cells = cells i })
+
+pub same-variables : (slots slots' : ℕ) (one other : NumberedMap) (a b : Contents) (r : Bool) → AreNumbersOf slots one.cells → AreNumbersOf slots' other.cells → contents slots one.kind one.cells ≡ a → contents slots' other.kind other.cells ≡ b →
+    slots ≡ slots' → (r ≡ true → one ≡ other) × (one ≡ other → r ≡ true) → (r ≡ true → a ≡ b) × (a ≡ b → r ≡ true)
+same-variables slots slots' one other a b r f g is was size tells = (
+  λ t. sym is ∙ (λ i. contents (size i) (tells.0 t i).kind (tells.0 t i).cells) ∙ was,
+  λ same. tells.1 (same-numbers slots slots' one other a b f g is was same).1,
+)
+
+pub other-variables : (slots slots' : ℕ) (one other : NumberedMap) (a b : Contents) → AreNumbersOf slots one.cells → AreNumbersOf slots' other.cells → contents slots one.kind one.cells ≡ a → contents slots' other.kind other.cells ≡ b →
+    (slots ≡ slots' → ⊥) → (false ≡ true → a ≡ b) × (a ≡ b → false ≡ true)
+other-variables slots slots' one other a b f g is was apart = (λ t. cc, λ same. absurd (apart (same-numbers slots slots' one other a b f g is was same).0))
+
+pub as_decided : (r b : Bool) (P : Type 0) → (r ≡ true → P) × (P → r ≡ true) → (b ≡ true → P) × (P → b ≡ true) → r ≡ b
+as_decided true true P f g = refl
+as_decided false false P f g = refl
+as_decided true false P f g = let e = g.1 (f.0 refl) in cc
+as_decided false true P f g = let e = f.1 (g.0 refl) in cc

@@ -15,3 +15,6 @@ pub use laws::{
     composed_does_both, difference_gives_newer, difference_tells_apart, overwritten_is_map,
 };
 pub use variable::{Patch, Variable};
+
+#[cfg(test)]
+mod tests;

@@ -2,19 +2,18 @@ ghost use Rattle.std.specs.Prelude.{◌≡◌, ◌<◌, ◌≢◌, ◌↔◌, �
 ghost use Rattle.aw_page.specs.Fitting.{is_of_kind};
 ghost use Rattle.aw_cell.specs.declared.cell.Cell.TheVariants.{Na};
 ghost use Rattle.std.specs.BTreeMap.{IsUnchanged};
-ghost use Rattle.aw_var.specs.inside.NumberedMap.{cell_of, set_of, difference_of};
+ghost use Rattle.aw_var.specs.inside.NumberedMap.{cell_of, set_of, difference_of, IsNumberedMap};
 ghost use Rattle.aw_var.specs.inside.Unpacking.{with_coords, AreNumbersOf};
 ghost use Rattle.aw_var.specs.inside.Sheets.{PutsCell, number_pages, AreSheets};
 
+use crate::patching::{lesser, push_changes};
+use crate::sheet::Sheet;
+use crate::walk::Walk;
 use aw_cell::{Cell, Kind};
 use aw_lists::{Coord, List};
 use std::alloc::{AllocError, Global};
 use std::collections::BTreeMap;
 use std::marker::Model;
-
-use crate::patching::{lesser, push_changes};
-use crate::sheet::Sheet;
-use crate::walk::Walk;
 
 /// A finite map from packed keys to cells of one kind that aren't NA, in sheets of 64 by `number / 64`.
 #[derive(Drop)]
@@ -139,7 +138,8 @@ impl Numbered {
 
     /// Whether it has no cell.
     pub fn is_empty(&self) -> bool
-        ensures { IsTrue result ↔ (self.now.cells ≡ []) }
+        ensures empty { IsTrue result ↔ (self.now.cells ≡ []) }
+        ensures valid { IsNumberedMap self.now }
     {
         self.sheets.is_empty()
     }
@@ -170,7 +170,11 @@ impl Numbered {
 
     /// What makes this map of an older one of its kind, with keys of so many slots in place of their
     /// numbers.
-    pub fn patch_since(&self, older: &Numbered, slots: u8) -> Result<List<(Coord, Cell)>, AllocError>
+    pub fn patch_since(
+        &self,
+        older: &Numbered,
+        slots: u8,
+    ) -> Result<List<(Coord, Cell)>, AllocError>
         requires kind { self.now.kind ≡ older.now.kind }
         requires numbers { AreNumbersOf slots self.now.cells }
         requires older_numbers { AreNumbersOf slots older.now.cells }

@@ -4,11 +4,10 @@ ghost use Rattle.aw_lists.specs.Coord.{packed, AreSlots};
 ghost use Rattle.aw_var.specs.inside.Differences.{changes_on, ChangesFit, lesser_of};
 ghost use Rattle.aw_var.specs.inside.Unpacking.{unpacked, with_coords};
 
+use crate::sheet::{Sheet, cell_in};
 use aw_cell::Cell;
 use aw_lists::Coord;
 use std::alloc::AllocError;
-
-use crate::sheet::{Sheet, cell_in};
 
 /// The lesser of two pages, or the one that there is.
 pub fn lesser(one: Option<u128>, other: Option<u128>) -> Option<u128>

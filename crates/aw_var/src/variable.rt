@@ -6,19 +6,17 @@ ghost use Rattle.aw_var.specs.CellPatch.{difference};
 ghost use Rattle.aw_var.specs.Pages.{page_count, HasNoPage, ArePageCells};
 ghost use Rattle.aw_var.specs.Variable.{IsVariable};
 
+use crate::fault::VarFault;
+use crate::numbered::Numbered;
+use crate::patching::keep_range;
 use aw_cell::{Cell, Kind};
 use aw_lists::{Coord, List};
 use std::alloc::{AllocError, Global};
 use std::marker::Model;
 
-use crate::fault::VarFault;
-use crate::numbered::Numbered;
-use crate::patching::keep_range;
-
 /// Which cells a variable changes: each key with its new cell, or NA where the cell is taken away; the
 /// keys rise (docs/SHARING.md, "Patches").
 pub type Patch = List<(Coord, Cell)>;
-
 
 /// The most pages that the cells of a variable lie on where they are set one by one.
 const MOST_PAGES: usize = 65_536;
@@ -133,6 +131,14 @@ impl Variable {
         self.cells.patch_since(&older.cells, self.slots)
     }
 
+    /// Whether every cell is NA. What holds of every variable is told here too.
+    pub fn is_empty(&self) -> bool
+        ensures empty { IsTrue result ↔ (self.now.cells ≡ []) }
+        ensures valid { IsVariable self.now }
+    {
+        self.cells.is_empty()
+    }
+
     /// An equal variable.
     pub fn copied(&self) -> Result<Variable, AllocError>
         ensures { IfOk result (λ copy. copy ≡ self.now) }
@@ -142,4 +148,26 @@ impl Variable {
             cells: self.cells.copied()?,
         })
     }
+}
+
+impl PartialEq for Variable {
+    ghost use Rattle.std.specs.Prelude.{◌≡◌, ◌↔◌, IsTrue};
+    ghost use Rattle.aw_var.specs.SameContents.{same_contents, same_contents_partial_equivalence};
+
+    ghost eq = { same_contents };
+
+    ghost laws = { same_contents_partial_equivalence };
+
+    fn eq(&self, other: &Variable) -> bool
+        ensures same { result ≡ same_contents self.now other.now }
+        ensures equal { IsTrue result ↔ (self.now ≡ other.now) }
+    {
+        self.slots == other.slots && self.cells.is_same(&other.cells)
+    }
+}
+
+impl Eq for Variable {
+    ghost use Rattle.aw_var.specs.SameContents.{same_contents_equivalence};
+
+    ghost laws = { same_contents_equivalence };
 }

@@ -2,11 +2,10 @@ ghost use Rattle.std.specs.Prelude.{◌≡◌};
 ghost use Rattle.std.specs.Option.{option_copied};
 ghost use Rattle.aw_var.specs.inside.Walks.{first_page, TakesSheet};
 
+use crate::sheet::Sheet;
 use std::collections::BTreeMap;
 use std::collections::btree_map::Iter;
 use std::marker::Model;
-
-use crate::sheet::Sheet;
 
 /// The sheets of a map that are still to come, by rising pages, with the next one in hand.
 #[derive(Drop)]

@@ -13,7 +13,6 @@ taken c =
     let is : c.args.cell ≡ Na = c.if-eq.ensures.equal.0 refl in
     subst (λ (x : Cell). OnOk c.take_cell.result (PutsCell c.self.inside.kind c.self.inside.sheets.entries c.take_cell.new.sheets.entries (c.args.number / 64) (c.args.number % 64) x)) (sym is) c.take_cell.ensures.ok
 
-
 pub invariant_of-self : goal.invariant_of-self
 invariant_of-self c = AreSheets-after c.self.inside.kind c.self.inside.sheets.entries c.take_cell.new.sheets.entries c.args.number c.args.cell c.take_cell.result c.self.invariant (ap (λ (m : NumberedMap). is_of_kind m.kind c.args.cell) c.self.view_is ∙ c.requires) (taken c) c.take_cell.ensures.err
 
