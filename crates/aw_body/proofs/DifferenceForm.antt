@@ -72,6 +72,6 @@ pub difference-form : (older newer : Contents) → IsVariable older → IsVariab
 difference-form older newer older_is newer_is alike =
     let before : list_all (is_change_of older.slots older.kind) older.cells ≡ true = all-pairs older.slots older.kind older.cells older_is.pairs in
     let now : list_all (is_change_of older.slots older.kind) newer.cells ≡ true =
-      subst (λ (n : ℕ). list_all (is_change_of n older.kind) newer.cells ≡ true) (sym alike.0) (
-      subst (λ (k : Kind). list_all (is_change_of newer.slots k) newer.cells ≡ true) (sym alike.1) (all-pairs newer.slots newer.kind newer.cells newer_is.pairs)) in
+    subst (λ (n : ℕ). list_all (is_change_of n older.kind) newer.cells ≡ true) (sym alike.0) (
+    subst (λ (k : Kind). list_all (is_change_of newer.slots k) newer.cells ≡ true) (sym alike.1) (all-pairs newer.slots newer.kind newer.cells newer_is.pairs)) in
     all-composed older.slots older.kind _ _ (all-away older.slots older.kind _ (all-where older.slots older.kind _ older.cells before)) (all-where older.slots older.kind _ newer.cells now)
