@@ -1,40 +1,29 @@
 use crate::*;
-use aw_cell::{Cell, Kind, Text};
-use aw_lists::Coord;
-use std::alloc::Global;
+use aw_cell::{Cell, Kind};
+use aw_lists::{Coord, List};
+use std::alloc::{AllocError, Global};
 use std::test::Fail;
 
-fn key(slots: &[u16]) -> Result<Coord, Fail> {
-    Ok(Coord::of(slots).ok_or("at most 6 slots")?)
+fn keeps(alloc: Global, at: &Coord) -> Result<bool, AllocError> {
+    let mut sales = Variable::new(alloc, at.slots().len() as u8, Kind::Int);
+    sales.put(at, Cell::Int(7))?;
+    let before = sales.copied()?;
+    sales.put(at, Cell::Na)?;
+    Ok((sales.get(at) == Cell::Na) & (before.get(at) == Cell::Int(7)) & (before != sales))
 }
 
 #[test]
-fn holds_what_was_set(rt: HostRuntime) -> Result<(), Fail> {
-    let mut sales = Variable::new(rt.alloc(), 2, Kind::Int);
-    assert!(rt; sales.is_empty());
-    assert_eq!(rt; sales.slots(), 2);
-    assert_eq!(rt; sales.kind(), Kind::Int);
-    let (low, high) = (key(&[0, 63])?, key(&[65535, 65535])?);
-    if low.slots().len() != 2 || high.slots().len() != 2 {
-        return Ok(());
-    }
-    sales.put(&high, Cell::Int(7))?;
-    sales.put(&low, Cell::Int(-3))?;
-    let before = sales.copied()?;
-    assert!(rt; before == sales);
-    sales.put(&low, Cell::Na)?;
-    assert_eq!(rt; sales.get(&low), Cell::Na);
-    assert_eq!(rt; sales.get(&high), Cell::Int(7));
-    assert_eq!(rt; before.get(&low), Cell::Int(-3));
-    assert!(rt; before != sales);
+fn a_copy_keeps_its_cells(rt: HostRuntime) -> Result<(), Fail> {
+    let at = Coord::of(&[3, 64]).ok_or("two slots")?;
+    assert!(rt; keeps(rt.alloc(), &at)?);
     Ok(())
 }
 
-fn crosses_threads<T: Send + Sync + Drop>(_: T) {}
+fn needs_send_and_sync<T: Send + Sync + Drop>(_: T) {}
 
 #[test]
 fn goes_to_another_thread(rt: HostRuntime) {
-    crosses_threads(Variable::new(rt.alloc(), 0, Kind::Text));
-    crosses_threads(VarFault::Full);
-    crosses_threads::<Patch>(aw_lists::List::new(rt.alloc()));
+    needs_send_and_sync(Variable::new(rt.alloc(), 0, Kind::Text));
+    needs_send_and_sync(VarFault::Full);
+    needs_send_and_sync::<Patch>(List::new(rt.alloc()));
 }
