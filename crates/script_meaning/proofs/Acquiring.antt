@@ -5,13 +5,12 @@ use Rattle.std.proofs.Common.{◌∙◌, ap, sym, subst, ⊎_elim, arith}
 use Rattle.std.proofs.lemmas.Bool.{eq-eqb, ne_eqb, lt-ltb, le-ltb}
 use Rattle.std.proofs.lemmas.Option.{slice_get_within, slice_get_cases}
 use Rattle.aw_codec.specs.declared.record.Decoded.{Decoded}
-use Rattle.mv_core.specs.declared.entry.Change.{Change}
 use Rattle.mv_core.specs.declared.entry.Entry.TheVariants as entry
 use Rattle.mv_core.specs.declared.entry.Reply.{Reply}
 use Rattle.mv_core.specs.declared.entry.Reply.TheVariants.{Acquired, Newer, Owned}
 use Rattle.mv_core.specs.Generations.{latest_number}
 use Rattle.mv_core.specs.Owners.{owner_of}
-use Rattle.mv_core.specs.Workspace.{Workspace, object_of, standing}
+use Rattle.mv_core.specs.Workspace.{object_of, standing}
 use Rattle.mv_core.specs.Integers.{integers}
 use Rattle.mv_core.specs.SharedStep.{free_reply, acquire_reply}
 use Rattle.ses_step.specs.declared.answer.Answer.{Answer}

@@ -4,7 +4,6 @@ use Rattle.std.proofs.Common.{◌∙◌, ap, ap₂, sym, subst, subst₂, ⊎_el
 use Rattle.std.proofs.lemmas.Option.{none-some, same_Some}
 use Rattle.aw_cell.specs.declared.cell.Cell.{Cell}
 use Rattle.aw_codec.specs.declared.record.Decoded.{Decoded}
-use Rattle.aw_codec.specs.declared.record.Decoded.TheVariants.{Definitions}
 use Rattle.aw_journal.specs.Passed.{Passed}
 use Rattle.mv_core.specs.declared.entry.Entry.{Entry}
 use Rattle.mv_core.specs.declared.entry.Entry.TheVariants.{Attach, Acquire, Commit}

@@ -1,17 +1,16 @@
 -- Where all outcomes are done, none of them matters.
 use Rattle.std.specs.Prelude.{◌≡◌, ◌+◌, ℕ, zero, suc, cond, List, [], ◌∷◌, refl}
-use Rattle.std.specs.List.{All, count_by}
-use Rattle.std.proofs.Common.{◌∙◌, ap, sym, arith}
+use Rattle.std.specs.List.{count_by}
+use Rattle.std.proofs.Common.{◌∙◌, sym, arith}
 use Rattle.std.proofs.lemmas.List.Elements.{All-nil, All-cons, All-head, All-tail}
 use Rattle.std.proofs.lemmas.List.Sums.{sum_by-append}
 use Rattle.aw_codec.specs.declared.record.Decoded.{Decoded}
 use Rattle.script_world.specs.Worlds.{Event, script_events}
 use Rattle.script_world.specs.Outcomes.{Outcome, done, faulted, among}
 use Rattle.script_world.specs.Faults.{has_faulted}
-use Rattle.script_world.specs.Laws.{SameOf}
 use Rattle.script_world.proofs.Told.{all_done}
 use Rattle.script_meaning.specs.AllDone.{AreDone, IsAsWithNone}
-use Rattle.script_meaning.specs.Language.{store_writing, history_machine, by_history}
+use Rattle.script_meaning.specs.Language.{store_writing, history_machine}
 use Rattle.script_meaning.specs.Transcript.{opening, transcript}
 
 pub none_faulted : (outcomes : List Outcome) → count_by has_faulted outcomes ≡ 0 → AreDone outcomes

@@ -5,9 +5,7 @@ use Rattle.std.proofs.Common.{ap, sym, subst, ⊎_elim, arith}
 use Rattle.std.proofs.lemmas.Bool.{true≢false}
 use Rattle.std.proofs.lemmas.Option.{slice_get_cases}
 use Rattle.aw_cell.specs.declared.cell.Cell.TheVariants.{Int}
-use Rattle.mv_core.specs.declared.entry.Change.{Change}
 use Rattle.mv_core.specs.declared.entry.Entry.TheVariants as entry
-use Rattle.mv_core.specs.Workspace.{Workspace}
 use Rattle.ses_step.specs.declared.answer.Answer.{Answer}
 use Rattle.ses_step.specs.declared.answer.Answer.TheVariants.{Done, Shown, Refused}
 use Rattle.ses_report.specs.declared.refusal.Refusal.{Refusal}

@@ -1,8 +1,7 @@
 -- A turn on a disk: that of the machine without one, with an attempt that is done, or with one that faulted and no change.
-use Rattle.std.specs.Prelude.{◌≡◌, ◌++◌, ℕ, ℤ, Bool, true, false, List, [], ◌∷◌, length, Option, None, Some, Result, Ok, Err, map, filter, if◌then◌else◌, refl}
+use Rattle.std.specs.Prelude.{◌≡◌, ◌++◌, ℕ, ℤ, Bool, true, false, List, [], ◌∷◌, length, Option, None, Some, Result, Ok, Err, map, if◌then◌else◌, refl}
 use Rattle.std.proofs.Common.{◌∙◌, ap, sym, subst}
 use Rattle.aw_codec.specs.declared.record.Decoded.{Decoded}
-use Rattle.mv_core.specs.declared.entry.Change.{Change}
 use Rattle.mv_core.specs.declared.entry.Entry.{Entry}
 use Rattle.mv_core.specs.declared.entry.Entry.TheVariants as entry
 use Rattle.mv_core.specs.declared.entry.Reply.{Reply}
@@ -11,14 +10,13 @@ use Rattle.aw_store.specs.Stores.{record_of}
 use Rattle.ses_step.specs.declared.answer.Answer.TheVariants.{Done, Shown, Refused}
 use Rattle.ses_report.specs.declared.refusal.Refusal.{Refusal}
 use Rattle.ses_step.specs.declared.line.Command.{Command}
-use Rattle.ses_step.specs.declared.line.Command.TheVariants as command
 use Rattle.ses_step.specs.declared.session.Begun.{Begun}
 use Rattle.ses_step.specs.declared.session.Begun.TheVariants.{Said, Ask}
 use Rattle.ses_step.specs.declared.session.Session.{Session}
 use Rattle.ses_step.specs.declared.session.View.{View}
 use Rattle.aw_cell.specs.declared.cell.Cell.TheVariants.{Int}
 use Rattle.ses_report.specs.Refusals.{disk_fault, not_attached, already_attached}
-use Rattle.ses_step.specs.Sessions.{begun, located, with_view, updated, commit_asked, is_staged, change_of_view}
+use Rattle.ses_step.specs.Sessions.{begun, with_view, updated}
 use Rattle.script_world.specs.Worlds.{Machine}
 use Rattle.script_meaning.proofs.Begins.{asked_by}
 use Rattle.script_meaning.specs.Turns.{Turn, replied, turn_from, turn}

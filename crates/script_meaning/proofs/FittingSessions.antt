@@ -1,28 +1,25 @@
 -- When a session attaches, is granted an object or commits, all sessions stay fitting what is committed and owned.
-use Rattle.std.specs.Prelude.{◌≡◌, ◌≢◌, ◌<◌, ◌+◌, ◌⊎◌, ◌&&◌, ℕ, zero, suc, true, not, List, [], ◌∷◌, ◌++◌, length, map, Option, Some, None, IsSome, slice_get, slice_set, if◌then◌else◌, refl}
-use Rattle.std.proofs.Common.{◌∙◌, ap, ap₂, sym, subst, subst₂, inl, inr, ⊎_elim, arith, length-set}
-use Rattle.std.proofs.lemmas.Bool.{and_parts, true≢false, cases_eq, cases_Bool}
+use Rattle.std.specs.Prelude.{◌≡◌, ◌≢◌, ◌<◌, ◌+◌, ℕ, zero, suc, true, List, [], ◌∷◌, length, map, Some, slice_get, slice_set, refl}
+use Rattle.std.proofs.Common.{◌∙◌, ap, ap₂, sym, subst, subst₂, ⊎_elim, arith, length-set}
+use Rattle.std.proofs.lemmas.Bool.{true≢false}
 use Rattle.std.proofs.lemmas.List.{length-map}
-use Rattle.std.proofs.lemmas.Option.{none-some, same_Some, slice_get_within, slice_get_cases}
-use Rattle.aw_cell.specs.Cell.{same_cell}
+use Rattle.std.proofs.lemmas.Option.{none-some, same_Some, slice_get_within}
 use Rattle.aw_cell.specs.declared.cell.Cell.{Cell}
 use Rattle.mv_core.specs.declared.entry.Change.{Change}
 use Rattle.mv_core.specs.declared.entry.Fresh.{Fresh}
 use Rattle.mv_core.specs.declared.object.Object.{Object}
-use Rattle.mv_core.specs.Generations.{change_of, latest_number, latest_body}
-use Rattle.mv_core.specs.GenerationLaws.{IsGeneration-latest, latest_body-changed, latest_body-unchanged}
+use Rattle.mv_core.specs.Generations.{latest_number, latest_body}
+use Rattle.mv_core.specs.GenerationLaws.{IsGeneration-latest}
 use Rattle.mv_core.specs.StandingLaws.{length-standing}
 use Rattle.mv_core.specs.Owners.{owner_of}
 use Rattle.mv_core.specs.Workspace.{Workspace, object_of, standing}
 use Rattle.mv_core.specs.Integers.{integers}
 use Rattle.mv_core.specs.SharedStep.{fresh_from}
-use Rattle.ses_step.specs.declared.session.Session.{Session}
 use Rattle.ses_step.specs.declared.session.View.{View}
-use Rattle.ses_step.specs.Sessions.{seen, change_of_view, committed_view}
-use Rattle.script_meaning.specs.Fit.{is_value, ViewFits, ViewsFit, SessionFits, IsAttached, SharedFits}
-use Rattle.script_world.proofs.Elements.{slice_get-set_cases, slice_get-set_other}
-use Rattle.script_meaning.proofs.Elements.{slice_get-map_from, slice_get-map_range, slice_get-set_same}
-use Rattle.script_meaning.proofs.Fitting.{changes_in, change_of-view, change_of-from, committed, ViewFits-passed, ViewFits-committed, IsFree, granted_to, owner_of-same, owner_of-other, ViewFits-not_granted, ViewFits-granted_to_another, ViewFits-granted}
+use Rattle.ses_step.specs.Sessions.{seen}
+use Rattle.script_meaning.specs.Fit.{is_value, ViewFits, ViewsFit}
+use Rattle.script_world.proofs.Elements.{slice_get-set_cases}
+use Rattle.script_meaning.proofs.Elements.{slice_get-map_from, slice_get-map_range}
 
 -- ---- the views of a session
 

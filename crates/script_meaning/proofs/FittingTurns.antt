@@ -1,36 +1,30 @@
 -- Each command of a session keeps all sessions fitting what is committed and owned.
-use Rattle.std.specs.Prelude.{◌≡◌, ◌<◌, ◌≤◌, ◌==◌, ◌⊎◌, ℕ, ℤ, Bool, true, false, List, [], ◌∷◌, map, filter, find, Option, Some, None, Result, Ok, Err, is_some, ok_or, nat_lt, slice_get, slice_set, if◌then◌else◌, refl}
+use Rattle.std.specs.Prelude.{◌≡◌, ◌<◌, ◌≤◌, ◌==◌, ◌⊎◌, ℕ, Bool, true, false, List, find, Option, Some, None, Result, Ok, Err, ok_or, nat_lt, slice_get, if◌then◌else◌, refl}
 use Rattle.std.specs.Option.{option_map}
-use Rattle.std.proofs.Common.{◌∙◌, ap, sym, subst, subst₂, inl, inr, ⊎_elim, arith}
-use Rattle.std.proofs.lemmas.Bool.{eqb-true, leb-false, ltb-false, true≢false}
+use Rattle.std.proofs.Common.{◌∙◌, ap, sym, inl, inr, ⊎_elim, arith}
+use Rattle.std.proofs.lemmas.Bool.{eqb-true, leb-false, ltb-false}
 use Rattle.std.proofs.lemmas.Option.{slice_get_within, none-some, same_Some}
 use Rattle.aw_cell.specs.declared.cell.Cell.{Cell}
 use Rattle.aw_cell.specs.declared.cell.Cell.TheVariants.{Int}
 use Rattle.mv_core.specs.declared.entry.Change.{Change}
-use Rattle.mv_core.specs.declared.entry.Entry.{Entry}
-use Rattle.mv_core.specs.declared.entry.Entry.TheVariants as entry
 use Rattle.mv_core.specs.declared.entry.Reply.{Reply}
 use Rattle.mv_core.specs.declared.entry.Reply.TheVariants.{Acquired, Committed, Owned, Newer, Stranger, Worn}
 use Rattle.mv_core.specs.declared.object.Object.{Object}
 use Rattle.mv_core.specs.Generations.{change_of, latest_number}
 use Rattle.mv_core.specs.Workspace.{Workspace, object_of, standing}
 use Rattle.mv_core.specs.Integers.{integers}
-use Rattle.mv_core.specs.SharedStep.{free_reply, acquire_reply, commit_reply, first_stranger, first_worn, is_worn, fresh_from, reply_of, workspace_after}
+use Rattle.mv_core.specs.SharedStep.{free_reply, acquire_reply, commit_reply, first_stranger, first_worn, is_worn}
 use Rattle.ses_step.specs.declared.line.Command.{Command}
 use Rattle.ses_step.specs.declared.line.Command.TheVariants as command
-use Rattle.ses_step.specs.declared.answer.Answer.TheVariants.{Done, Shown, Refused}
 use Rattle.ses_report.specs.declared.refusal.Refusal.{Refusal}
-use Rattle.ses_step.specs.declared.session.Begun.TheVariants.{Said, Ask}
 use Rattle.ses_step.specs.declared.session.Session.{Session}
 use Rattle.ses_step.specs.declared.session.View.{View}
 use Rattle.ses_step.specs.Words.{place_of}
-use Rattle.ses_report.specs.Refusals.{no_form, not_attached, already_attached}
-use Rattle.ses_step.specs.Sessions.{seen, updated, is_staged, change_of_view, committed_view, owning_in, with_view, located, commit_asked, finished}
-use Rattle.script_meaning.specs.Turns.{Turn, turn_from, turn}
-use Rattle.script_meaning.specs.Language.{history_machine}
-use Rattle.script_meaning.specs.Fit.{is_value, ViewFits, ViewsFit, IsAttached, SharedFits}
+use Rattle.ses_report.specs.Refusals.{no_form, not_attached}
+use Rattle.ses_step.specs.Sessions.{located}
+use Rattle.script_meaning.specs.Fit.{is_value, ViewsFit}
 use Rattle.script_meaning.proofs.Elements.{find-passes, find-fails}
-use Rattle.script_meaning.proofs.Fitting.{number-le-latest, changes_in, committed, IsFree, granted_to}
+use Rattle.script_meaning.proofs.Fitting.{number-le-latest, committed}
 use Rattle.script_meaning.proofs.FittingSessions.{slice_get-standing}
 
 -- ---- replies

@@ -1,8 +1,7 @@
 -- A refused line changes nothing, and the faults of commits are seen.
-use Rattle.std.specs.Prelude.{◌≡◌, ◌≢◌, ◌&&◌, ◌==◌, ℕ, Bool, true, false, List, [], ◌∷◌, ◌++◌, length, nat_lt, Option, Some, None, is_none, is_some, Result, Ok, Err, slice_get, if◌then◌else◌, refl}
-use Rattle.std.proofs.Common.{◌∙◌, ap, sym, subst, ⊎_elim}
+use Rattle.std.specs.Prelude.{◌≡◌, ◌≢◌, ℕ, Bool, true, false, List, [], ◌∷◌, ◌++◌, Option, Some, None, is_some, Result, Ok, Err, slice_get, if◌then◌else◌, refl}
+use Rattle.std.proofs.Common.{ap, sym, subst, ⊎_elim}
 use Rattle.std.proofs.lemmas.Bool.{true≢false}
-use Rattle.aw_codec.specs.declared.record.Decoded.{Decoded}
 use Rattle.mv_core.specs.declared.entry.Change.{Change}
 use Rattle.mv_core.specs.declared.entry.Entry.{Entry}
 use Rattle.mv_core.specs.declared.entry.Entry.TheVariants as entry
@@ -11,15 +10,12 @@ use Rattle.mv_core.specs.declared.entry.Reply.TheVariants.{Attached, Acquired, C
 use Rattle.mv_core.specs.Integers.{integers}
 use Rattle.mv_core.specs.SharedStep.{reply_of, workspace_after}
 use Rattle.mv_core.specs.Workspace.{Workspace, standing}
-use Rattle.ses_step.specs.declared.answer.Answer.TheVariants.{Done, Shown, Refused}
 use Rattle.ses_report.specs.declared.refusal.Refusal.{Refusal}
 use Rattle.ses_step.specs.declared.line.Command.{Command}
 use Rattle.ses_step.specs.declared.line.Line.{Line}
 use Rattle.ses_step.specs.declared.line.Line.TheVariants as line
 use Rattle.ses_step.specs.declared.session.Session.{Session}
 use Rattle.ses_step.specs.Lines.{line_form}
-use Rattle.ses_step.specs.Sessions.{begun, finished}
-use Rattle.ses_step.specs.Words.{place_of}
 use Rattle.script_meaning.proofs.Begins.{IsOwn, begins}
 use Rattle.script_meaning.proofs.FittingTurns.{acquire_reply-cases, commit_reply-cases}
 use Rattle.script_world.specs.Meaning as world
@@ -34,7 +30,7 @@ use Rattle.script_meaning.specs.Matching.{SameState}
 use Rattle.ses_report.specs.Reports as report
 use Rattle.ses_report.specs.Refusals.{no_form}
 use Rattle.script_world.proofs.Refusals.{Mild, refusal_changes_nothing}
-use Rattle.script_meaning.specs.Language.{language, store_writing, Waiting, begun_of, begin, finish, form_of, can_define, defined_by, define, HistoryDisk, HistoryWorld, history_machine, by_history}
+use Rattle.script_meaning.specs.Language.{store_writing, Waiting, begun_of, begin, finish, form_of, can_define, defined_by, define, HistoryDisk, HistoryWorld, history_machine, by_history}
 
 abbrev QuietForm : world.Form (Option Command) → Type 0
 QuietForm (world.malformed refusal) = is_fault refusal ≡ false

@@ -1,7 +1,7 @@
 -- The views of a session fit what is committed and owned, by the laws of one session.
-use Rattle.std.specs.Prelude.{◌≡◌, ◌≢◌, ◌<◌, ◌+◌, ◌⊎◌, ◌&&◌, ℕ, ℤ, zero, suc, Bool, true, false, not, List, [], ◌∷◌, ◌++◌, length, map, filter, Option, Some, None, is_none, nat_lt, Result, Ok, Err, slice_get, slice_set, if◌then◌else◌, refl}
+use Rattle.std.specs.Prelude.{◌≡◌, ◌≢◌, ◌<◌, ◌&&◌, ℕ, ℤ, Bool, true, false, not, List, [], ◌∷◌, ◌++◌, length, map, Option, Some, None, is_none, nat_lt, Result, Ok, Err, slice_get, slice_set, if◌then◌else◌, refl}
 use Rattle.std.specs.Option.{ForSome, option_map}
-use Rattle.std.proofs.Common.{◌∙◌, ap, ap₂, sym, subst, subst₂, inl, inr, ⊎_elim, arith}
+use Rattle.std.proofs.Common.{◌∙◌, ap, sym, subst, subst₂, inl, inr, ⊎_elim, arith}
 use Rattle.std.proofs.lemmas.Bool.{and_parts, cases_eq, cases_Bool}
 use Rattle.std.proofs.lemmas.Option.{none-some, same_Some, slice_get_within, slice_get_cases}
 use Rattle.aw_cell.specs.Cell.{same_cell}
@@ -20,17 +20,12 @@ use Rattle.mv_core.specs.Owners.{owner_of}
 use Rattle.mv_core.specs.Integers.{integers}
 use Rattle.mv_core.specs.SharedStep.{first_worn, fresh_from, reply_of, workspace_after}
 use Rattle.ses_step.specs.declared.line.Command.{Command}
-use Rattle.ses_step.specs.declared.line.Command.TheVariants as command
-use Rattle.ses_step.specs.declared.answer.Answer.{Answer}
-use Rattle.ses_step.specs.declared.answer.Answer.TheVariants.{Done, Shown, Refused}
-use Rattle.ses_step.specs.declared.session.Begun.{Begun}
-use Rattle.ses_step.specs.declared.session.Begun.TheVariants.{Said, Ask}
 use Rattle.ses_step.specs.declared.session.Session.{Session}
 use Rattle.ses_step.specs.declared.session.View.{View}
-use Rattle.ses_report.specs.Refusals.{no_form, not_attached, already_attached}
-use Rattle.ses_step.specs.Sessions.{new_session, seen, updated, is_staged, change_of_view, committed_view, owning_in, with_view, begun, commit_asked, finished}
+use Rattle.ses_report.specs.Refusals.{no_form}
+use Rattle.ses_step.specs.Sessions.{seen, updated, change_of_view, committed_view, owning_in, with_view, finished}
 use Rattle.script_meaning.specs.Fit.{is_value, ViewFits, ViewsFit, SessionFits}
-use Rattle.script_meaning.proofs.Fitting.{number-le-latest, changes_in, change_of-view, change_of-from, committed, ViewFits-passed, ViewFits-committed, IsFree, granted_to, owner_of-same, owner_of-other, ViewFits-not_granted, ViewFits-granted_to_another, ViewFits-granted}
+use Rattle.script_meaning.proofs.Fitting.{changes_in, change_of-view, change_of-from, committed, ViewFits-passed, ViewFits-committed, IsFree, granted_to, owner_of-same, owner_of-other, ViewFits-not_granted, ViewFits-granted_to_another, ViewFits-granted}
 use Rattle.script_meaning.proofs.FittingSessions.{ViewsFit-mapped, ViewsFit-set, ViewsFit-seen, slice_get-standing}
 use Rattle.script_meaning.proofs.FittingTurns.{MayGrant, acquire_reply-cases, commit_reply-cases, number-small, AssignsInteger, granted_latest}
 use Rattle.script_meaning.proofs.Begins.{AskedOf, begins}
@@ -45,11 +40,10 @@ use Rattle.ses_step.specs.declared.line.Line.{Line}
 use Rattle.ses_step.specs.declared.line.Line.TheVariants as line
 use Rattle.ses_step.specs.Lines.{line_form}
 use Rattle.script_meaning.proofs.AssignedIntegers.{HasInteger, line_form-integer}
-use Rattle.script_world.specs.Worlds.{World, Machine, Event, world_after}
-use Rattle.script_world.specs.Outcomes.{Outcome, OnDisk, among, by_list}
+use Rattle.script_world.specs.Outcomes.{Outcome}
 use Rattle.script_meaning.specs.Language.{language, store_writing, Waiting, begun_of, begin, finish, form_of, can_define, defined_by, define, history_machine}
-use Rattle.script_world.proofs.Fits.{Lawful, WorldFits, worlds_fit}
-use Rattle.script_world.proofs.DiskFits.{FaultsKeep, disk_lawful}
+use Rattle.script_world.proofs.Fits.{Lawful}
+use Rattle.script_world.proofs.DiskFits.{FaultsKeep}
 
 -- ---- the laws of one session
 

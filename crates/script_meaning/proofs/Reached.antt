@@ -1,5 +1,5 @@
 -- Every world of a run fits what is committed and owned, and its records stand for the commits.
-use Rattle.std.specs.Prelude.{◌≡◌, ◌<◌, ◌&&◌, ◌++◌, ℕ, Bool, true, false, List, [], ◌∷◌, length, Option, Some, None, IsSome, nat_le, unwrap_or, slice_get, if◌then◌else◌, refl}
+use Rattle.std.specs.Prelude.{◌≡◌, ◌<◌, ◌&&◌, ◌++◌, ℕ, true, List, [], ◌∷◌, length, Option, Some, None, IsSome, nat_le, unwrap_or, slice_get, if◌then◌else◌, refl}
 use Rattle.std.specs.Option.{ForSome}
 use Rattle.std.specs.List.{list_all}
 use Rattle.std.proofs.Common.{◌∙◌, ap, ap₂, sym, subst, ⊎_elim, arith, append-nil}
@@ -19,10 +19,10 @@ use Rattle.mv_core.specs.Workspace.{Workspace}
 use Rattle.ses_step.specs.declared.session.Session.{Session}
 use Rattle.ses_step.specs.declared.session.View.{View}
 use Rattle.ses_step.specs.Sessions.{new_session}
-use Rattle.script_world.specs.Worlds.{World, Event, script_ends, with_session, closed, answered, world_after}
+use Rattle.script_world.specs.Worlds.{Event, script_ends, with_session, closed, world_after}
 use Rattle.script_world.specs.Outcomes as disk
 use Rattle.script_world.specs.Outcomes.{Outcome, OnDisk, on_disk, among, attempts_of}
-use Rattle.script_world.specs.Left.{done_records, settled_records, MayLeave}
+use Rattle.script_world.specs.Left.{settled_records}
 use Rattle.script_world.proofs.Appending.{world_after-append}
 use Rattle.script_world.proofs.Crash.{leaves_a_run}
 use Rattle.script_world.proofs.Told.{used-opening}

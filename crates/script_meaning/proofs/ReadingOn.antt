@@ -6,7 +6,6 @@ use Rattle.std.proofs.lemmas.Bool.{eq-eqb, ne_eqb, cases_eq}
 use Rattle.std.proofs.lemmas.Option.{none-some, same_Some, slice_get_within, slice_get_cases, slice_get-get_or}
 use Rattle.aw_cell.specs.declared.cell.Cell.{Cell}
 use Rattle.aw_codec.specs.declared.record.Decoded.{Decoded}
-use Rattle.mv_core.specs.declared.entry.Change.{Change}
 use Rattle.mv_core.specs.Generations.{latest_body}
 use Rattle.mv_core.specs.Integers.{integers}
 use Rattle.ses_step.specs.declared.line.Command.{Command}

@@ -1,7 +1,7 @@
 -- The record of a commit that is granted has a spelling, and can be replayed behind those before it.
 use Rattle.std.specs.Prelude.{◌≡◌, ◌≤◌, ◌+◌, ◌-◌, ◌&&◌, ◌++◌, ℕ, suc, true, false, cond, List, [], ◌∷◌, length, map, filter, Option, None, Some, nat_le, nat_lt, slice_get, refl}
 use Rattle.std.specs.List.{list_all}
-use Rattle.std.proofs.Common.{◌∙◌, ap, sym, arith, append_assoc}
+use Rattle.std.proofs.Common.{◌∙◌, ap, sym, arith}
 use Rattle.std.proofs.lemmas.Bool.{and_parts, and_from, leb-true, lt-ltb, true≢false}
 use Rattle.std.proofs.lemmas.List.Folds.{list_all-append}
 use Rattle.std.proofs.lemmas.Option.{same_Some}

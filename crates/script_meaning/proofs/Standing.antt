@@ -4,7 +4,6 @@ use Rattle.std.specs.Option.{option_map}
 use Rattle.std.proofs.Common.{◌∙◌, ap, sym}
 use Rattle.aw_cell.specs.declared.cell.Cell.{Cell}
 use Rattle.aw_codec.specs.declared.record.Decoded.{Decoded}
-use Rattle.mv_core.specs.declared.entry.Entry.{Entry}
 use Rattle.mv_core.specs.declared.entry.Reply.{Reply}
 use Rattle.mv_core.specs.declared.object.Object.{Object}
 use Rattle.mv_core.specs.SharedStep.{reply_of}
@@ -17,7 +16,7 @@ use Rattle.script_world.specs.Outcomes as disk
 use Rattle.script_world.specs.Outcomes.{Outcome, among, attempts_of}
 use Rattle.script_world.proofs.Alike.{MachinesAlike, disks_alike, events_alike}
 use Rattle.script_meaning.specs.Alike.{standing_disk, AreAlike}
-use Rattle.script_meaning.specs.Language.{language, store_writing, history_machine, objects_machine, HistoryDisk, HistoryWorld, ObjectsWorld, by_history, by_objects}
+use Rattle.script_meaning.specs.Language.{store_writing, history_machine, objects_machine, HistoryDisk, HistoryWorld, ObjectsWorld, by_history, by_objects}
 use Rattle.script_meaning.specs.Transcript.{opening, opening_objects, world_at}
 
 machines_alike : MachinesAlike objects_machine history_machine (standing integers)

@@ -1,17 +1,14 @@
 -- A line with a session's command is answered by a turn of this session.
-use Rattle.std.specs.Prelude.{◌≡◌, ◌<◌, ℕ, Bool, true, List, length, Option, Some, nat_lt, slice_set, unwrap_or, if◌then◌else◌, refl}
+use Rattle.std.specs.Prelude.{◌≡◌, ℕ, Bool, List, length, Option, Some, nat_lt, slice_set, unwrap_or, if◌then◌else◌, refl}
 use Rattle.std.proofs.Common.{◌∙◌, ap}
 use Rattle.std.proofs.lemmas.Bool.{lt-ltb}
 use Rattle.ses_step.specs.declared.line.Command.{Command}
-use Rattle.ses_step.specs.declared.line.Line.TheVariants as form
 use Rattle.ses_step.specs.declared.session.Begun.{Begun}
 use Rattle.ses_step.specs.declared.session.Begun.TheVariants.{Said, Ask}
 use Rattle.ses_step.specs.declared.session.Session.{Session}
 use Rattle.ses_step.specs.Answers.{answer_of}
-use Rattle.ses_step.specs.Lines.{line_form}
 use Rattle.ses_step.specs.Sessions.{begun}
-use Rattle.script_world.specs.Meaning.{under}
-use Rattle.script_world.specs.Worlds.{World, Machine, line, Answered, answers, name_at, answered_so, session_place, with_name, with_session, own_session, begun_so, commanded, crowded_out, shared_of, closed, form_planned, settled, answered}
+use Rattle.script_world.specs.Worlds.{World, Machine, answers, name_at, answered_so, session_place, with_name, with_session, own_session, begun_so, commanded, crowded_out, shared_of, closed, form_planned, settled}
 use Rattle.script_world.specs.Outcomes.{Outcome}
 use Rattle.script_world.proofs.Moves.{if-holds}
 use Rattle.script_meaning.specs.Language.{language, begun_of, form_of, HistoryDisk, HistoryWorld, by_history}

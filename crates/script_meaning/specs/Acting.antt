@@ -1,14 +1,11 @@
 -- The attempts that the calls of a store make, and how they ended.
-use Rattle.std.specs.Prelude.{◌≡◌, ℕ, Bool, true, false, List, [], ◌∷◌, Result, Ok, Err}
+use Rattle.std.specs.Prelude.{ℕ, Bool, true, false, List, [], ◌∷◌}
 use Rattle.aw_codec.specs.declared.record.Decoded.{Decoded}
-use Rattle.aw_codec.specs.declared.record.Decoded.TheVariants.{Definitions}
 use Rattle.mv_core.specs.declared.entry.Entry.{Entry}
 use Rattle.mv_core.specs.declared.entry.Reply.{Reply}
 use Rattle.mv_core.specs.declared.entry.Reply.TheVariants.{Fault}
 use Rattle.mv_core.specs.SharedStep.{writes}
-use Rattle.aw_store.specs.declared.store.StoreFault.{StoreFault}
-use Rattle.aw_store.specs.declared.store.StoreFault.TheVariants.{Defined, DiskFault, NoMemory}
-use Rattle.aw_store.specs.Stores.{StoreState, record_of, Doubts, Writes}
+use Rattle.aw_store.specs.Stores.{record_of}
 use Rattle.script_world.specs.Outcomes.{Outcome, done, faulted, Attempt}
 
 -- the outcomes that a reply to an entry tells: that of the commit, where it reached the disk

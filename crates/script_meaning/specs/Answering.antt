@@ -1,7 +1,5 @@
 -- Which refusal of a command comes first, and what a command is answered that asks nothing of the shared state.
 use Rattle.std.specs.Prelude.{◌≡◌, ◌≢◌, ℕ, ℤ, Bool, true, false, List, None, Some, is_none}
-use Rattle.mv_core.specs.declared.entry.Change.{Change}
-use Rattle.mv_core.specs.Workspace.{Workspace}
 use Rattle.ses_step.specs.declared.answer.Answer.{Answer}
 use Rattle.ses_step.specs.declared.answer.Answer.TheVariants.{Done, Refused}
 use Rattle.ses_step.specs.declared.line.Command.{Command}

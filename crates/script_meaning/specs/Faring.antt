@@ -7,7 +7,7 @@ use Rattle.aw_codec.specs.declared.record.Decoded.{Decoded}
 use Rattle.aw_store.specs.Images.{HoldsRecords}
 use Rattle.aw_store.specs.Stores.{StoreState}
 use Rattle.script_world.specs.Outcomes.{Attempt}
-use Rattle.script_world.specs.Left.{AreEqual, settled_records, IsInDoubt, MayLeave}
+use Rattle.script_world.specs.Left.{settled_records, IsInDoubt, MayLeave}
 
 -- moments that never fall, none before the first of these two and none after the other
 abbrev pub Rise : ℕ → List ℕ → ℕ → Type 0

@@ -1,5 +1,5 @@
 -- What the sessions see fits what is committed and owned.
-use Rattle.std.specs.Prelude.{◌≡◌, ◌&&◌, ◌<◌, ◌↔◌, ℕ, min, true, false, List, [], length, Some, None, IsSome, Bool, slice_get}
+use Rattle.std.specs.Prelude.{◌≡◌, ◌&&◌, ◌<◌, ◌↔◌, ℕ, min, true, false, List, length, Some, None, IsSome, Bool, slice_get}
 use Rattle.std.specs.Option.{ForSome}
 use Rattle.aw_cell.specs.declared.cell.Cell.{Cell}
 use Rattle.aw_codec.specs.Records.{AreDefinable}

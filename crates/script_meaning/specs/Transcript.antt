@@ -1,8 +1,6 @@
 -- The transcript of a script on a disk: each event's answer, in order, each in the world that the events before it left.
 use Rattle.std.specs.Prelude.{ℕ, Bool, List, []}
-use Rattle.aw_cell.specs.declared.cell.Cell.{Cell}
 use Rattle.aw_codec.specs.declared.record.Decoded.{Decoded}
-use Rattle.mv_core.specs.declared.object.Object.{Object}
 use Rattle.mv_core.specs.Integers.{integers}
 use Rattle.mv_core.specs.Workspace.{standing}
 use Rattle.aw_store.specs.Replay.{names_of, workspace_of}

@@ -1,5 +1,5 @@
 -- A command of a session by itself, for laws on single commands.
-use Rattle.std.specs.Prelude.{ℕ, List, Option}
+use Rattle.std.specs.Prelude.{ℕ, List}
 use Rattle.mv_core.specs.declared.entry.Entry.{Entry}
 use Rattle.mv_core.specs.declared.entry.Reply.{Reply}
 use Rattle.ses_step.specs.declared.line.Command.{Command}

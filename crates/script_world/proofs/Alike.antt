@@ -1,11 +1,11 @@
 -- A machine whose states stand for those of another one by a map answers events as that one does.
 use Rattle.std.specs.Prelude.{◌≡◌, ◌||◌, ◌++◌, ℕ, Bool, true, false, List, [], ◌∷◌, length, nat_lt, Option, Some, None, Result, Ok, Err, unwrap_or, if◌then◌else◌, refl}
 use Rattle.std.specs.Option.{option_map}
-use Rattle.std.proofs.Common.{◌∙◌, ap, sym}
+use Rattle.std.proofs.Common.{◌∙◌, ap}
 use Rattle.ses_report.specs.declared.refusal.Refusal.{Refusal}
 use Rattle.script_world.specs.Meaning.{Begun, said, ask, Form, nothing, malformed, joins, ends, under, Meaning}
 use Rattle.script_world.specs.Outcomes.{Outcome, done, faulted, Writing, OnDisk, written, on_disk}
-use Rattle.script_world.specs.Worlds.{World, with_shared, Machine, Event, line, block_ends, script_ends, Answered, Planned, answers, asks, silent, refused_so, crowded_out, defined_so, defined_before, defined, session_place, with_name, with_session, own_session, begun_so, commanded, shared_of, closed, session_planned, form_planned, block_ended, planned, turned, settled, answered, text_of, any_refused, is_refused, world_after}
+use Rattle.script_world.specs.Worlds.{World, with_shared, Machine, Event, line, block_ends, script_ends, Answered, Planned, answers, asks, silent, crowded_out, defined_so, defined_before, defined, session_place, with_name, with_session, own_session, begun_so, commanded, shared_of, closed, session_planned, form_planned, block_ended, planned, turned, settled, answered, text_of, any_refused, is_refused, world_after}
 
 if-map : {A B : Type 0} (g : A → B) (test : Bool) (yes_case no_case : A) → (if test then g yes_case else g no_case) ≡ g (if test then yes_case else no_case)
 if-map g true yes_case no_case = refl

@@ -1,7 +1,7 @@
 -- Events behind others, and one more byte of the script.
 use Rattle.std.specs.Prelude.{map}
 use Rattle.std.specs.Str.Lines.{strip_carriage_return}
-use Rattle.std.proofs.Common.{◌≡◌, ◌||◌, ℕ, Bool, true, false, cond, eqb, List, [], ◌∷◌, ◌++◌, refl, sym, ap, ◌∙◌, append_assoc, append-nil}
+use Rattle.std.proofs.Common.{◌≡◌, ◌||◌, ℕ, Bool, true, false, cond, eqb, List, [], ◌∷◌, ◌++◌, refl, sym, ap, ◌∙◌, append_assoc}
 use Rattle.script_world.specs.Script.{ended_lines, open_line}
 use Rattle.script_world.proofs.ScriptLaws.{ended_lines-push, ended_more}
 use Rattle.script_world.specs.Meaning.{Meaning}

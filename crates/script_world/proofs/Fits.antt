@@ -1,7 +1,7 @@
 -- What holds of each session by itself, as the shared state stands, holds of all sessions of every world that is reached.
-use Rattle.std.specs.Prelude.{◌≡◌, ◌≢◌, ◌<◌, ◌⊎◌, ◌++◌, ◌+◌, ℕ, zero, suc, min, Bool, true, false, List, [], ◌∷◌, length, nat_lt, Some, None, Ok, if◌then◌else◌, slice_get, slice_set, refl}
+use Rattle.std.specs.Prelude.{◌≡◌, ◌≢◌, ◌<◌, ◌++◌, ◌+◌, ℕ, zero, suc, min, Bool, true, false, List, [], ◌∷◌, length, nat_lt, Some, None, Ok, if◌then◌else◌, slice_get, slice_set, refl}
 use Rattle.std.specs.Option.{ForSome}
-use Rattle.std.proofs.Common.{◌∙◌, ap, sym, subst, inl, inr, ⊎_elim, arith, length-append, length-set}
+use Rattle.std.proofs.Common.{◌∙◌, ap, sym, subst, ⊎_elim, arith, length-append, length-set}
 use Rattle.std.proofs.lemmas.Bool.{ltb-true, ltb-false}
 use Rattle.std.proofs.lemmas.Option.{none-some, same_Some, slice_get-get_or}
 use Rattle.ses_report.specs.Reports.{Answer}

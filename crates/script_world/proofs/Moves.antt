@@ -10,7 +10,7 @@ use Rattle.aw_cell.specs.Names.{same_word}
 use Rattle.ses_report.specs.declared.refusal.Refusal.{Refusal}
 use Rattle.ses_report.specs.Reports.{Answer}
 use Rattle.script_world.specs.Meaning.{Begun, said, ask, Form, nothing, malformed, joins, ends, under, Meaning}
-use Rattle.script_world.specs.Worlds.{World, Machine, Event, line, block_ends, script_ends, Planned, answers, asks, no_session, refused_so, crowded_out, with_lines, with_definitions, defined_so, defined_before, defined, session_place, session_in, session_of, with_name, with_session, with_own, own_session, begun_so, commanded, shared_of, closed, session_planned, form_planned, block_ended, planned, turned, settled, answered, world_after}
+use Rattle.script_world.specs.Worlds.{World, Machine, Event, line, block_ends, script_ends, Planned, answers, asks, crowded_out, with_lines, with_definitions, defined_so, defined_before, defined, session_place, session_in, session_of, with_name, with_session, with_own, own_session, begun_so, commanded, shared_of, closed, session_planned, form_planned, block_ended, planned, turned, settled, answered, world_after}
 
 pub if-holds : {A : Type 0} (P : A → Type 0) (test : Bool) (yes_case no_case : A) → P yes_case → P no_case → P (if test then yes_case else no_case)
 if-holds P true yes_case no_case it other = it

@@ -1,9 +1,9 @@
 -- An event leaves each session that it isn't of.
-use Rattle.std.specs.Prelude.{◌≡◌, ◌≢◌, ◌++◌, ℕ, List, [], ◌∷◌, length, nat_lt, Some, slice_get, slice_set, refl}
+use Rattle.std.specs.Prelude.{◌≡◌, ◌≢◌, ◌++◌, ℕ, List, [], ◌∷◌, length, nat_lt, Some, slice_get}
 use Rattle.std.specs.Option.{ForSome}
 use Rattle.std.proofs.Common.{◌∙◌}
 use Rattle.script_world.specs.Meaning.{Meaning}
-use Rattle.script_world.specs.Worlds.{World, Machine, Event, own_session, session_of, answered}
+use Rattle.script_world.specs.Worlds.{World, Machine, Event, session_of, answered}
 use Rattle.script_world.specs.Laws.{KeepsOthers}
 use Rattle.script_world.proofs.Elements.{slice_get-set_other, slice_get-append}
 use Rattle.script_world.proofs.Moves.{if-holds, Keeps, answered-keeps}

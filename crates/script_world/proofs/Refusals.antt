@@ -6,7 +6,7 @@ use Rattle.std.proofs.lemmas.Bool.{true≢false}
 use Rattle.std.proofs.lemmas.Option.{same_Some}
 use Rattle.ses_report.specs.Reports.{Answer}
 use Rattle.script_world.specs.Meaning.{Begun, said, ask, Meaning}
-use Rattle.script_world.specs.Worlds.{World, Machine, Event, Answered, with_own, own_session, begun_so, commanded, shared_of, settled, answered, is_refused}
+use Rattle.script_world.specs.Worlds.{World, Machine, Event, Answered, with_own, own_session, begun_so, commanded, shared_of, settled, is_refused}
 use Rattle.script_world.specs.Laws.{ChangesNothing, RefusalChangesNothing}
 use Rattle.script_world.proofs.Walk.{Rests, walk}
 use Rattle.script_world.proofs.Elements.{slice_get-append}

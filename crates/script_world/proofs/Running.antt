@@ -3,8 +3,8 @@ use Rattle.std.specs.Prelude.{◌≡◌, ◌≤◌, ◌||◌, ◌++◌, ◌+◌,
 use Rattle.std.proofs.Common.{◌∙◌, ap, ap₂, sym, subst, arith, length-append, append_assoc, append-nil}
 use Rattle.ses_report.specs.Reports.{Answer}
 use Rattle.script_world.specs.Meaning.{Meaning}
-use Rattle.script_world.specs.Worlds.{World, Machine, Event, answered, text_of, any_refused, is_refused, world_after, with_shared}
-use Rattle.script_world.specs.Outcomes.{Outcome, Attempt, Writing, OnDisk, on_disk, among, by_list, used}
+use Rattle.script_world.specs.Worlds.{World, Machine, Event, answered, is_refused, world_after, with_shared}
+use Rattle.script_world.specs.Outcomes.{Outcome, Attempt, Writing, OnDisk, among, by_list, used}
 use Rattle.script_world.specs.Running.{Tells, HasRun, AnswersEvent}
 use Rattle.script_world.proofs.Appending.{text_of-append, any_refused-append, world_after-append}
 use Rattle.script_world.proofs.Told.{list_told_once, or-false}
