@@ -96,10 +96,10 @@ pub fn records_match()
     ensures at_the_end { (names : List (List ℕ)) (records : List Decoded) (coming : List Outcome) (events : List Event) → CanBeOpened records → EndMatches names records coming events }
 {}
 
-/// Outcomes behind those that the commits of some lines used change nothing of these lines, but
-/// that more are to come. So a program that doesn't know them yet has answered these lines all the
-/// same, and goes on with the outcomes that the next line's commit tells. See docs/SHARING.md,
-/// 'Commits on a disk'.
+/// Outcomes behind those that the commits of some lines used change nothing of what these lines are
+/// answered and leave. So a program that doesn't know them yet has answered these lines all the same,
+/// and goes on with the outcomes that the next line's commit tells. See docs/SHARING.md, 'Commits on
+/// a disk'.
 pub fn text_is_told_once()
     ensures told { (names : List (List ℕ)) (records : List Decoded) (coming more : List Outcome) (events : List Event) →
         used (world_at names records coming events).shared ≤ length coming →
