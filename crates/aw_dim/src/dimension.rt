@@ -290,20 +290,15 @@ mod tests {
 
     fn needs_send_and_sync<T: Send + Sync + Drop>(_: T) {}
 
-    /// Whether a dimension has these values in this order, and its look-ups find them.
-    fn has(dimension: &Dimension, values: &[(u16, &[u8])]) -> bool {
-        let mut same = dimension.len() as usize == values.len();
-        for (place, (slot, name)) in values.iter().enumerate() {
-            same &= dimension.at(place as u32) == Some(*slot);
-            same &= dimension.position_of(*slot) == Some(place as u32);
-            same &= match (dimension.name_of(*slot), Text::of(name)) {
-                (Some(found), Some(text)) => {
-                    found == text && dimension.slot_of(&text) == Some(*slot)
-                }
-                _ => false,
-            };
-        }
-        same
+    /// Whether the value at a place has this slot and this name, and the look-ups find it.
+    fn is_at(dimension: &Dimension, place: u32, slot: u16, name: &[u8]) -> bool {
+        let named = match Text::of(name) {
+            Some(text) => {
+                dimension.name_of(slot) == Some(text) && dimension.slot_of(&text) == Some(slot)
+            }
+            None => false,
+        };
+        named & (dimension.at(place) == Some(slot)) & (dimension.position_of(slot) == Some(place))
     }
 
     /// Adds a value, and says whether it got a slot.
@@ -321,16 +316,23 @@ mod tests {
         ended == Ok(())
     }
 
+    /// Moves a value, and says whether that was done.
+    fn moves(dimension: &mut Dimension, slot: u16, place: u32) -> bool {
+        place <= dimension.len() && done(dimension.move_to(slot, place))
+    }
+
     #[test]
     fn keeps_its_values_in_order(rt: HostRuntime) -> Result<(), Fail> {
         let mut dimension = Dimension::new(rt.alloc());
         let added = adds(&mut dimension, b"North", 0, 0)
             & adds(&mut dimension, b"East", 1, 1)
             & adds(&mut dimension, b"All", 0, 2);
-        assert!(rt; added & has(&dimension, &[(2, b"All"), (0, b"North"), (1, b"East")]));
+        assert!(rt; added & is_at(&dimension, 0, 2, b"All") & is_at(&dimension, 2, 1, b"East"));
         let removed = done(dimension.remove(1)) & !done(dimension.remove(1));
         let again = adds(&mut dimension, b"East", 2, 3) & !adds(&mut dimension, b"All", 0, 4);
-        assert!(rt; removed & again & has(&dimension, &[(2, b"All"), (0, b"North"), (3, b"East")]));
+        assert!(rt;
+            removed & again & is_at(&dimension, 1, 0, b"North") & is_at(&dimension, 2, 3, b"East")
+        );
         Ok(())
     }
 
@@ -340,12 +342,14 @@ mod tests {
         let added = adds(&mut dimension, b"C", 0, 0)
             & adds(&mut dimension, b"A", 1, 1)
             & adds(&mut dimension, b"B", 2, 2);
-        let moved = done(dimension.move_to(0, 1));
-        assert!(rt; added & moved & has(&dimension, &[(1, b"A"), (0, b"C"), (2, b"B")]));
+        let moved = moves(&mut dimension, 0, 1);
+        assert!(rt; added & moved & is_at(&dimension, 0, 1, b"A") & is_at(&dimension, 1, 0, b"C"));
         let name = Text::of(b"D").ok_or("a text")?;
         let renamed = !name.bytes().is_empty() && done(dimension.rename(1, name));
-        let moved = done(dimension.move_to(1, 3));
-        assert!(rt; renamed & moved & has(&dimension, &[(0, b"C"), (2, b"B"), (1, b"D")]));
+        let moved = moves(&mut dimension, 1, 3);
+        assert!(rt;
+            renamed & moved & is_at(&dimension, 1, 2, b"B") & is_at(&dimension, 2, 1, b"D")
+        );
         assert!(rt; dimension.copied()? == dimension && dimension.next() == 3);
         needs_send_and_sync(dimension);
         needs_send_and_sync(DimFault::Full);
@@ -364,7 +368,7 @@ mod tests {
         assert!(rt; Dimension::of(rt.alloc(), same_slot, 5)?.is_none());
         assert!(rt; Dimension::of(rt.alloc(), low, 4)?.is_none());
         let made = Dimension::of(rt.alloc(), values, 5)?.ok_or("a dimension")?;
-        assert!(rt; has(&made, &[(4, b"B"), (2, b"A")]));
+        assert!(rt; is_at(&made, 0, 4, b"B") & is_at(&made, 1, 2, b"A") & (made.len() == 2));
         crate::slots_are_never_given_again();
         Ok(())
     }
