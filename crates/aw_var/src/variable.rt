@@ -89,7 +89,7 @@ impl Variable {
         requires slots { length at.now ≡ self.old.slots }
         requires kind { IsTrue (is_of_kind self.old.kind cell) }
         ensures ok { OnOk result (self.new ≡ record self.old { cells = set_at self.old.cells at.now cell }) }
-        ensures full { (result ≡ Err VarFault.Full) ↔ (MOST_PAGES < page_count (set_at self.old.cells at.now cell)) }
+        ensures full { (result ≡ Err VarFault.Full) ↔ (65536 < page_count (set_at self.old.cells at.now cell)) }
         ensures err { OnErr result (self.new ≡ self.old) }
     {
         if self.is_full_for(at, &cell) {
