@@ -18,7 +18,35 @@ olapdml PATH play < SCRIPT
 olapdml PATH dump
 
 Makes a workspace in the file PATH, plays a script of definitions and session lines on it and
-writes the transcript, or writes what it holds.";
+writes the transcript, or writes what it holds.
+
+A refused line is answered by ERROR, a number and its detail:
+
+   1  a line of no form, an unknown or repeated name, a 65th session
+      write the statement as docs/LANGUAGE.md has it; define names before the first session line
+  15  the session isn't attached
+      begin with AW ATTACH MULTI
+  16  the session is attached already
+      leave the second AW ATTACH MULTI out
+  17  another session owns the variable
+      wait for its commit, or ask its owner, who is named
+  18  the variable has a generation that is newer than the session's
+      attach in a later run, and change the newer value
+  19  the session doesn't own the variable
+      ACQUIRE it first
+  22  the variable has the last generation number that there is
+      define another variable on a new workspace
+  30  the disk failed in the commit, of which nothing is kept
+      see to the disk, and COMMIT again
+
+It ends with one of these statuses:
+
+   0  all was done, and no line was refused     5  the workspace failed, or is in use
+   1  all was done, and some line was refused   6  memory ran out
+   2  the words are no command                  7  the file is no workspace
+   3  reading the script failed                 8  the workspace is damaged
+   4  writing failed                            9  the file is a workspace already
+                                               10  the script has more than 67,108,864 bytes";
 
 const VERSION: &str = "olapdml 0.2.0";
 
