@@ -1,5 +1,5 @@
 -- Whether a list has NA everywhere but at one place.
-use Rattle.std.proofs.Common.{◌≡◌, ℕ, zero, suc, ◌+◌, ◌<◌, Bool, true, false, not, ◌&&◌, List, [], ◌∷◌, length, slice_set, slice_get, get_or, Some, refl, sym, ap, ◌∙◌, arith}
+use Rattle.std.proofs.Common.{◌≡◌, ℕ, suc, ◌<◌, true, false, not, List, [], ◌∷◌, length, slice_set, slice_get, get_or, Some, refl, sym, ap, ◌∙◌, arith}
 use Rattle.std.proofs.lemmas.List.{get_or-set_same, get_or-set_other}
 use Rattle.std.proofs.Math.ListN.{length-set}
 use Rattle.std.proofs.lemmas.Option.{get_or_from_slice_get}
@@ -12,7 +12,7 @@ use Rattle.aw_cell.specs.Cell.{same_cell}
 use Rattle.aw_cell.specs.SameCell.{same_cell-Decides}
 use Rattle.aw_page.specs.Fitting.{is_na}
 use Rattle.aw_var.proofs.FiniteMaps.{and_true}
-use Rattle.aw_var.proofs.Puts.{na_of, get_or-all_na}
+use Rattle.aw_var.proofs.Puts.{get_or-all_na}
 
 pub all_na : (cells : List Cell) → ((k : ℕ) → k < length cells → get_or cells k Na ≡ Na) → list_all is_na cells ≡ true
 all_na [] each = refl

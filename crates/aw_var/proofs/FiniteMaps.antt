@@ -1,5 +1,5 @@
 -- Finite maps to cells over keys in any order: what they have after each change, and that two are one where they agree.
-use Rattle.std.proofs.Common.{◌≡◌, ℕ, Bool, true, false, cond, not, ◌&&◌, List, [], ◌∷◌, map, Option, Some, None, unwrap_or, refl, sym, ap, subst, ◌∙◌, Ordering, Less, Equal, Greater, IsTrue, ◌↔◌}
+use Rattle.std.proofs.Common.{◌≡◌, Bool, true, false, cond, not, ◌&&◌, List, [], ◌∷◌, map, Option, Some, None, unwrap_or, refl, sym, ap, subst, ◌∙◌, Ordering, Less, Equal, Greater, ◌↔◌}
 use Rattle.std.proofs.Math.Dec.{T}
 use Rattle.std.specs.List.{list_all, filter}
 use Rattle.std.specs.Ordering.{eq_by_cmp, is_eq, is_lt}

@@ -1,7 +1,7 @@
 -- Going over the sheets of two maps at once.
-use Rattle.std.proofs.Common.{◌≡◌, ℕ, zero, suc, ◌+◌, ◌-◌, ◌*◌, ◌/◌, ◌%◌, ◌^◌, ◌<◌, ◌≤◌, Bool, true, false, cond, not, List, [], ◌∷◌, ◌++◌, length, min, Option, Some, None, unwrap_or, refl, sym, ap, subst, ◌∙◌, append_assoc, append-nil, arith}
+use Rattle.std.proofs.Common.{◌≡◌, ℕ, suc, ◌+◌, ◌-◌, ◌*◌, ◌/◌, ◌%◌, ◌^◌, ◌<◌, ◌≤◌, Bool, true, false, cond, not, List, [], ◌∷◌, ◌++◌, length, min, Option, Some, None, unwrap_or, refl, sym, ap, subst, ◌∙◌, append_assoc, append-nil, arith}
 use Rattle.std.specs.Prelude.{nat_lt}
-use Rattle.std.specs.Ordering.{nat_cmp, is_eq, eq_by_cmp}
+use Rattle.std.specs.Ordering.{nat_cmp, is_eq}
 use Rattle.std.specs.FinMap.{find, nat_cmp-IsAntisymmetric}
 use Rattle.std.proofs.lemmas.Bool.Decides.{Decides-ltb}
 use Rattle.aw_cell.specs.declared.cell.Cell.{Cell}
@@ -9,7 +9,7 @@ use Rattle.aw_cell.specs.declared.cell.Cell.TheVariants.{Na}
 use Rattle.aw_cell.specs.declared.cell.Kind.{Kind}
 use Rattle.aw_cell.specs.Cell.{same_cell}
 use Rattle.aw_cell.specs.SameCell.{same_cell-Decides}
-use Rattle.aw_var.specs.CellMap.{Cells, cell_by}
+use Rattle.aw_var.specs.CellMap.{Cells}
 use Rattle.aw_var.specs.inside.NumberedMap.{NumberedMap, cell_of, difference_of}
 use Rattle.aw_var.specs.inside.Sheets.{SheetCells, Sheets, numbered, all_numbered, sheet_at, AreSheets}
 use Rattle.aw_var.specs.inside.Differences.{cell_on, changes_on, lesser_of, ChangesFit}

@@ -10,3 +10,6 @@ pub mod SheetDifferences
 pub mod GoingOver
 pub mod SameSheets
 pub mod Valid
+pub mod Iterating
+pub mod Counting
+pub mod PageCells

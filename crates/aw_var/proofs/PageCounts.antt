@@ -1,5 +1,5 @@
 -- How many pages the cells of some sheets are on: as many as there are sheets.
-use Rattle.std.proofs.Common.{◌≡◌, ℕ, zero, suc, ◌+◌, ◌-◌, ◌*◌, ◌/◌, ◌%◌, ◌<◌, ◌≤◌, Bool, true, false, cond, not, ◌&&◌, ◌||◌, ◌==◌, List, [], ◌∷◌, ◌++◌, length, replicate, slice_set, get_or, Option, Some, None, unwrap_or, refl, sym, ap, subst, ◌∙◌, arith, Ordering, Less, Equal, Greater}
+use Rattle.std.proofs.Common.{◌≡◌, ℕ, ◌+◌, ◌-◌, ◌*◌, ◌/◌, ◌%◌, ◌<◌, ◌≤◌, Bool, true, false, cond, not, ◌&&◌, ◌||◌, ◌==◌, List, [], ◌∷◌, ◌++◌, length, replicate, slice_set, Option, Some, None, refl, sym, ap, subst, ◌∙◌, arith, Less, Equal, Greater}
 use Rattle.std.specs.List.{list_all, list_any, AllByRecursion}
 use Rattle.std.specs.List.Sorted.{IsStrictlySortedBy}
 use Rattle.std.specs.Prelude.{nat_le}
@@ -16,8 +16,8 @@ use Rattle.aw_cell.specs.declared.cell.Cell.TheVariants.{Na}
 use Rattle.aw_cell.specs.declared.cell.Kind.{Kind}
 use Rattle.aw_page.specs.Fitting.{is_na, is_of_kind}
 use Rattle.aw_var.specs.inside.NumberedMap.{set_of}
-use Rattle.aw_var.specs.inside.Sheets.{SheetCells, Sheets, numbered, all_numbered, number_pages, IsSheet, AreSheets, sheet_at, blank, unless_blank, sheet_with, PutsCell}
-use Rattle.aw_var.proofs.FiniteMaps.{both_true, and_true, to_T, from_T, turned}
+use Rattle.aw_var.specs.inside.Sheets.{SheetCells, Sheets, numbered, all_numbered, number_pages, AreSheets, sheet_at, sheet_with, PutsCell}
+use Rattle.aw_var.proofs.FiniteMaps.{both_true, to_T, from_T, turned}
 use Rattle.aw_var.proofs.Numbers.{from_on, le_of}
 use Rattle.aw_var.proofs.Sheets.{EachSheet, EachSheet-AreSheets, all_numbered-from, is_sorted_of, lookup-find}
 use Rattle.aw_var.specs.inside.NumberedMap.{NumberedMap}

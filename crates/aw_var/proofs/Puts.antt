@@ -1,5 +1,5 @@
 -- What one cell, put in the sheet of its page, makes of the map.
-use Rattle.std.proofs.Common.{◌≡◌, ℕ, zero, suc, ◌+◌, ◌-◌, ◌*◌, ◌/◌, ◌%◌, ◌<◌, ◌≤◌, Bool, true, false, cond, not, ◌&&◌, List, [], ◌∷◌, length, replicate, slice_set, get_or, Option, Some, None, unwrap_or, refl, sym, ap, subst, ◌∙◌, arith, IsTrue, Result, Ok, Err, OnOk, OnErr}
+use Rattle.std.proofs.Common.{◌≡◌, ℕ, zero, suc, ◌/◌, ◌%◌, ◌<◌, Bool, true, false, cond, ◌&&◌, List, [], ◌∷◌, length, replicate, slice_set, get_or, Option, Some, None, unwrap_or, refl, sym, ap, subst, ◌∙◌, arith, Result, Ok, Err, OnOk, OnErr}
 use Rattle.std.proofs.lemmas.List.{get_or-set_same, get_or-set_other}
 use Rattle.std.proofs.Math.ListN.{length-set}
 use Rattle.std.specs.List.{list_all}
@@ -19,7 +19,7 @@ use Rattle.aw_cell.specs.declared.cell.Kind.{Kind}
 use Rattle.aw_cell.specs.declared.cell.Kind.TheVariants.{Num as NumberKind, Int as IntegerKind, Text as TextKind, Bool as BooleanKind, Slot as SlotKind}
 use Rattle.aw_page.specs.Fitting.{is_na, is_of_kind, is_plain, IsPlain, IsTextOrNa}
 use Rattle.std.specs.declared.alloc.AllocError.{AllocError}
-use Rattle.aw_var.specs.inside.NumberedMap.{NumberedMap, cell_of, set_of}
+use Rattle.aw_var.specs.inside.NumberedMap.{NumberedMap, set_of}
 use Rattle.aw_var.specs.inside.Sheets.{SheetCells, Sheets, all_numbered, is_text_kind, IsSheet, AreSheets, sheet_at, blank, unless_blank, sheet_with, PutsCell}
 use Rattle.aw_var.proofs.FiniteMaps.{both_true, and_true, equal_of, same_map, cell-set, IsMapBy-set}
 use Rattle.aw_var.proofs.Numbers.{at_same}
@@ -285,7 +285,7 @@ pub kept-on_err : (old new : BTreeMap ℕ SheetCells) (page : ℕ) (sheet now : 
 kept-on_err old new page sheet now (Ok u) is err w = tt
 kept-on_err old new page sheet now (Err e) is err w = kept-after old new page sheet now is err w
 
-pub on_err : {P : Type 0} (r : Result (Unit {0}) AllocError) → P → OnErr r P
+pub on_err : {P A : Type 0} (r : Result A AllocError) → P → OnErr r P
 on_err (Ok u) p = tt
 on_err (Err e) p = p
 

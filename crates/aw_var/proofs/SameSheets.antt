@@ -1,6 +1,5 @@
 -- Sheets that hold the same cells are the same.
-use Rattle.std.proofs.Common.{◌≡◌, ℕ, zero, suc, ◌+◌, ◌*◌, ◌/◌, ◌%◌, ◌<◌, Bool, true, false, ◌&&◌, List, [], ◌∷◌, length, get_or, Option, Some, None, refl, sym, ap, subst, ◌∙◌, arith, IsTrue, ◌↔◌}
-use Rattle.std.specs.List.{list_all}
+use Rattle.std.proofs.Common.{◌≡◌, ℕ, suc, ◌+◌, ◌*◌, ◌/◌, ◌%◌, ◌<◌, Bool, true, ◌&&◌, List, [], ◌∷◌, length, get_or, Option, Some, None, refl, sym, ap, subst, ◌∙◌, arith}
 use Rattle.std.specs.Bool.{beq, Decides}
 use Rattle.std.specs.Prelude.{nat_eq}
 use Rattle.std.specs.BTreeMap.{BTreeMap}
@@ -17,7 +16,6 @@ use Rattle.aw_cell.specs.declared.cell.Cell.TheVariants.{Na}
 use Rattle.aw_cell.specs.declared.cell.Kind.{Kind}
 use Rattle.aw_cell.specs.Cell.{same_cell}
 use Rattle.aw_cell.specs.SameCell.{same_cell-Decides}
-use Rattle.aw_page.specs.Fitting.{is_na}
 use Rattle.aw_var.specs.inside.NumberedMap.{NumberedMap, cell_of}
 use Rattle.aw_var.specs.inside.Sheets.{SheetCells, Sheets, all_numbered, sheet_at, AreSheets, IsSheet}
 use Rattle.aw_var.specs.inside.Differences.{cell_on}

@@ -1,9 +1,9 @@
 -- How two maps differ is how their sheets differ, page by page.
-use Rattle.std.proofs.Common.{◌≡◌, ℕ, zero, suc, ◌+◌, ◌-◌, ◌*◌, ◌/◌, ◌%◌, ◌^◌, ◌<◌, ◌≤◌, Bool, true, false, cond, not, ◌&&◌, List, [], ◌∷◌, ◌++◌, map, length, get_or, Option, Some, None, unwrap_or, refl, sym, ap, subst, ◌∙◌, arith, Ordering, Less, Equal, Greater}
-use Rattle.std.specs.List.{list_all, filter}
+use Rattle.std.proofs.Common.{◌≡◌, ℕ, zero, suc, ◌+◌, ◌*◌, ◌/◌, ◌%◌, ◌<◌, ◌≤◌, Bool, true, false, cond, not, List, [], ◌∷◌, ◌++◌, map, Option, Some, None, unwrap_or, refl, sym, ap, subst, ◌∙◌, arith, Less, Equal, Greater}
+use Rattle.std.specs.List.{list_all}
 use Rattle.std.specs.Prelude.{nat_lt, nat_le}
-use Rattle.std.specs.Ordering.{nat_cmp, is_eq, is_lt, eq_by_cmp, MatchOrdering}
-use Rattle.std.specs.Cmp.{nat_cmp_is, nat_cmp_total, ranked}
+use Rattle.std.specs.Ordering.{nat_cmp, is_eq, is_lt, MatchOrdering}
+use Rattle.std.specs.Cmp.{nat_cmp_total, ranked}
 use Rattle.std.specs.FinMap.{find, put, is_sorted, nat_cmp-IsAntisymmetric}
 use Rattle.std.specs.FinMap.Entries.{where_key, below_all, by_order}
 use Rattle.std.proofs.lemmas.Bool.Decides.{Decides-ltb}
@@ -11,16 +11,15 @@ use Rattle.aw_cell.specs.declared.cell.Cell.{Cell}
 use Rattle.aw_cell.specs.declared.cell.Cell.TheVariants.{Na}
 use Rattle.aw_cell.specs.declared.cell.Kind.{Kind}
 use Rattle.aw_cell.specs.Cell.{same_cell}
-use Rattle.aw_cell.specs.SameCell.{same_cell-Decides}
 use Rattle.aw_page.specs.Fitting.{is_na}
-use Rattle.aw_var.specs.CellMap.{IsMapBy, cell_by}
-use Rattle.aw_var.specs.CellPatch.{composed_by, differ_by, taken_away_by, difference_by}
+use Rattle.aw_var.specs.CellMap.{IsMapBy}
+use Rattle.aw_var.specs.CellPatch.{composed_by, differ_by, taken_away_by}
 use Rattle.aw_var.specs.inside.NumberedMap.{cell_of, difference_of}
-use Rattle.aw_var.specs.inside.Sheets.{SheetCells, Sheets, all_numbered, sheet_at, AreSheets}
-use Rattle.aw_var.specs.inside.Differences.{cell_on, changes_on, lesser_of}
+use Rattle.aw_var.specs.inside.Sheets.{SheetCells, Sheets, all_numbered, sheet_at}
+use Rattle.aw_var.specs.inside.Differences.{cell_on, changes_on}
 use Rattle.aw_var.specs.inside.Walks.{first_page, TakesSheet}
 use Rattle.aw_var.proofs.FiniteMaps.{both_true, and_true, either, equal_of, find-difference, is_sorted-difference, is_difference}
-use Rattle.aw_var.proofs.Numbers.{at_same, at_less, at_more, lt_true, to_le, le_of, list_all-append, from_on, up_to, find-append, below-from, find-below, find-above, is_sorted-append}
+use Rattle.aw_var.proofs.Numbers.{at_same, lt_true, to_le, from_on, up_to, find-append, below-from, find-below, find-above, is_sorted-append}
 use Rattle.aw_var.proofs.Sheets.{EachSheet, sheet_at-absent, all_numbered-from, is_sorted-all, present-all, find-all, unwrap_or-found_on}
 use Rattle.aw_var.proofs.Unpacking.{list_all-filter}
 

@@ -1,5 +1,5 @@
 -- What the sheets of a map hold: its cells by their numbers, in order.
-use Rattle.std.proofs.Common.{◌≡◌, ℕ, zero, suc, ◌+◌, ◌-◌, ◌*◌, ◌/◌, ◌%◌, ◌<◌, ◌≤◌, Bool, true, false, cond, not, ◌&&◌, List, [], ◌∷◌, ◌++◌, length, get_or, Option, Some, None, unwrap_or, refl, sym, ap, subst, ◌∙◌, arith, Ordering, Less, Equal, Greater}
+use Rattle.std.proofs.Common.{◌≡◌, ℕ, zero, suc, ◌+◌, ◌-◌, ◌*◌, ◌/◌, ◌%◌, ◌<◌, ◌≤◌, true, false, cond, not, List, [], ◌∷◌, length, get_or, Option, Some, None, unwrap_or, refl, sym, ap, ◌∙◌, arith, Less, Equal, Greater}
 use Rattle.std.proofs.Math.ListN.{get_or-eq_default}
 use Rattle.std.specs.List.{list_all, AllByRecursion}
 use Rattle.std.specs.List.Sorted.{IsStrictlySortedBy}
@@ -14,13 +14,13 @@ use Rattle.std.proofs.lemmas.Bool.Decides.{Decides-ltb}
 use Rattle.aw_cell.specs.declared.cell.Cell.{Cell}
 use Rattle.aw_cell.specs.declared.cell.Cell.TheVariants.{Na}
 use Rattle.aw_cell.specs.declared.cell.Kind.{Kind}
-use Rattle.aw_page.specs.Fitting.{is_na, is_of_kind}
-use Rattle.aw_var.specs.CellMap.{IsMapBy, cell_by}
+use Rattle.aw_page.specs.Fitting.{is_na}
+use Rattle.aw_var.specs.CellMap.{IsMapBy}
 use Rattle.aw_var.specs.inside.NumberedMap.{cell_of}
 use Rattle.aw_var.specs.inside.Sheets.{SheetCells, Sheets, numbered, all_numbered, IsSheet, AreSheets, sheet_at}
 use Rattle.aw_var.specs.inside.Differences.{cell_on}
 use Rattle.aw_var.proofs.FiniteMaps.{both_true, and_true, kept, either, unwrap_or-kept, absent, equal_of}
-use Rattle.aw_var.proofs.Numbers.{at_same, at_less, at_more, lt_true, to_le, list_all-append, from_on, up_to, find-append, below-from, find-below, is_sorted-append, from_on-earlier}
+use Rattle.aw_var.proofs.Numbers.{at_same, at_more, to_le, list_all-append, from_on, up_to, find-append, below-from, find-below, is_sorted-append}
 
 pub numbered-from : (least from : ℕ) (cells : List Cell) → least ≤ from → from_on least (numbered from cells) ≡ true
 numbered-from least from [] h = refl

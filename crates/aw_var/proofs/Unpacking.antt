@@ -1,13 +1,13 @@
 -- Coordinates in place of their packed numbers: what is found and what each change makes of a map stays the same.
-use Rattle.std.proofs.Common.{◌≡◌, ℕ, zero, suc, ◌+◌, ◌-◌, ◌*◌, ◌/◌, ◌%◌, ◌^◌, ◌<◌, ◌≤◌, Bool, true, false, cond, not, ◌&&◌, ◌||◌, ◌==◌, List, [], ◌∷◌, map, length, get_or, Option, Some, None, unwrap_or, refl, sym, ap, subst, ◌∙◌, arith, IsTrue, Ordering, Less, Equal, Greater, Result, Ok, Err, OnOk, OnErr, IfOk}
+use Rattle.std.proofs.Common.{◌≡◌, ℕ, zero, suc, ◌+◌, ◌*◌, ◌/◌, ◌%◌, ◌^◌, ◌<◌, Bool, true, false, cond, not, ◌||◌, ◌==◌, List, [], ◌∷◌, map, length, Some, unwrap_or, refl, sym, ap, subst, ◌∙◌, arith, Less, Equal, Greater, Result, Ok, Err, OnOk, OnErr, IfOk}
 use Rattle.std.proofs.Math.Nat.{pow-suc, mod-lt, div-lt_iff_lt-mul}
 use Rattle.std.proofs.lemmas.Nat.{div-add-mod'}
-use Rattle.std.specs.List.{list_all, list_any, filter, All}
+use Rattle.std.specs.List.{list_all, list_any, filter}
 use Rattle.std.specs.Prelude.{nat_lt}
 use Rattle.std.specs.Ordering.{nat_cmp, is_eq, eq_by_cmp}
 use Rattle.std.specs.FinMap.{find, put}
 use Rattle.std.specs.FinMap.Entries.{where_key, by_order}
-use Rattle.std.proofs.lemmas.Bool.Decides.{Decides-ltb, Decides-eqb}
+use Rattle.std.proofs.lemmas.Bool.Decides.{Decides-ltb}
 use Rattle.aw_cell.specs.declared.cell.Cell.{Cell}
 use Rattle.aw_cell.specs.declared.cell.Cell.TheVariants.{Na}
 use Rattle.aw_cell.specs.Cell.{same_cell}
@@ -15,8 +15,8 @@ use Rattle.aw_page.specs.Fitting.{is_na}
 use Rattle.aw_lists.specs.Coord.{packed, AreSlots}
 use Rattle.aw_lists.proofs.Packing.{packed-below}
 use Rattle.aw_lists.proofs.PackingOrder.{packs_in_order}
-use Rattle.aw_var.specs.CellMap.{Cells, by_slots, cell_by, without_by, set_by, cell_at, set_at}
-use Rattle.aw_var.specs.CellPatch.{composed_by, differ_by, taken_away_by, difference_by, difference}
+use Rattle.aw_var.specs.CellMap.{Cells, by_slots, without_by, cell_at, set_at}
+use Rattle.aw_var.specs.CellPatch.{composed_by, differ_by, taken_away_by, difference}
 use Rattle.std.specs.declared.alloc.AllocError.{AllocError}
 use Rattle.aw_cell.specs.declared.cell.Kind.{Kind}
 use Rattle.aw_var.specs.Variable.{Contents}

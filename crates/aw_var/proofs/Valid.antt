@@ -1,5 +1,5 @@
 -- What holds of every variable.
-use Rattle.std.proofs.Common.{◌≡◌, ℕ, zero, suc, ◌+◌, ◌*◌, ◌^◌, ◌<◌, Bool, true, false, cond, not, ◌&&◌, ◌==◌, List, [], ◌∷◌, ◌++◌, length, refl, sym, ap, subst, ◌∙◌, arith, IsTrue}
+use Rattle.std.proofs.Common.{◌≡◌, ℕ, suc, ◌+◌, ◌*◌, ◌^◌, ◌<◌, Bool, true, false, cond, not, ◌&&◌, ◌==◌, List, [], ◌∷◌, length, refl, sym, ap, subst, ◌∙◌, arith}
 use Rattle.std.specs.Prelude.{nat_lt}
 use Rattle.std.specs.List.{list_all}
 use Rattle.std.specs.Ordering.{nat_cmp, is_lt}
@@ -10,7 +10,7 @@ use Rattle.aw_cell.specs.declared.cell.Cell.{Cell}
 use Rattle.aw_cell.specs.declared.cell.Kind.{Kind}
 use Rattle.aw_page.specs.Fitting.{is_na, is_of_kind}
 use Rattle.aw_lists.specs.Coord.{AreSlots}
-use Rattle.aw_var.specs.CellMap.{by_slots, IsMapBy}
+use Rattle.aw_var.specs.CellMap.{by_slots}
 use Rattle.aw_var.specs.Variable.{Contents, IsVariable, is_pair_of}
 use Rattle.aw_var.specs.inside.NumberedMap.{NumberedMap, IsNumberedMap}
 use Rattle.aw_var.specs.inside.Sheets.{Sheets, numbered, all_numbered, AreSheets}

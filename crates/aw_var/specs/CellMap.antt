@@ -1,6 +1,6 @@
 -- Finite maps to cells. A map is the list of its pairs, with keys that rise; no NA stands in it, so that one list stands for one
 -- map. The cell at a key that the list lacks is NA.
-use Rattle.std.specs.Prelude.{ℕ, Bool as Truth, not, cond, IsTrue, List, Option, unwrap_or}
+use Rattle.std.specs.Prelude.{ℕ, not, cond, IsTrue, List, unwrap_or}
 use Rattle.std.specs.List.{list_all}
 use Rattle.std.specs.Ordering.{nat_cmp, eq_by_cmp}
 use Rattle.std.specs.Cmp.Lexicographic.{slice_cmp}
@@ -34,8 +34,12 @@ module _ {K : Type 0} (order : K → K → Ordering) where
 abbrev pub by_slots : List ℕ → List ℕ → Ordering
 by_slots = slice_cmp nat_cmp
 
+-- a key with its cell
+abbrev pub KeyedCell : Type 0
+KeyedCell = List ℕ × Cell
+
 abbrev pub Cells : Type 0
-Cells = List (List ℕ × Cell)
+Cells = List KeyedCell
 
 abbrev pub IsCellMap : Cells → Type 0
 IsCellMap cells = IsMapBy by_slots cells

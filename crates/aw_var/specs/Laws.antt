@@ -1,7 +1,6 @@
 -- What holds of patches.
-use Rattle.std.specs.Prelude.{ℕ, ◌≡◌, ◌↔◌, IsTrue, List, [], Option, Some, None, cond}
+use Rattle.std.specs.Prelude.{ℕ, ◌≡◌, ◌↔◌, IsTrue, List, [], Some, None, cond}
 use Rattle.std.specs.FinMap.{find, is_sorted}
-use Rattle.aw_cell.specs.declared.cell.Cell.{Cell}
 use Rattle.aw_var.specs.CellMap.{Cells, by_slots, IsCellMap, cell_at}
 use Rattle.aw_var.specs.CellPatch.{overwritten, composed, difference, differ_at}
 

@@ -1,5 +1,5 @@
 -- Pages. The page of a coordinate is its packed number divided by 64, and its place there is the rest.
-use Rattle.std.specs.Prelude.{ℕ, ◌≡◌, ◌+◌, ◌*◌, ◌/◌, ◌<◌, Bool as Truth, ◌==◌, cond, List, [], ◌∷◌, length, slice_get, Some, ⊤}
+use Rattle.std.specs.Prelude.{ℕ, ◌≡◌, ◌+◌, ◌*◌, ◌/◌, ◌<◌, ◌==◌, cond, List, [], ◌∷◌, length, slice_get, Some, ⊤}
 use Rattle.std.specs.List.{list_any}
 use Rattle.aw_cell.specs.declared.cell.Kind.{Kind}
 use Rattle.aw_cell.specs.declared.cell.Kind.TheVariants.{Text as TextKind}

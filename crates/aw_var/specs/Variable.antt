@@ -1,5 +1,5 @@
 -- Variables.
-use Rattle.std.specs.Prelude.{ℕ, ◌≡◌, ◌≤◌, Bool as Truth, ◌&&◌, ◌==◌, nat_lt, IsTrue, List, length}
+use Rattle.std.specs.Prelude.{ℕ, ◌≤◌, Bool as Truth, ◌&&◌, ◌==◌, nat_lt, IsTrue, List, length}
 use Rattle.std.specs.List.{list_all}
 use Rattle.aw_cell.specs.declared.cell.Kind.{Kind}
 use Rattle.aw_cell.specs.declared.cell.Cell.{Cell}

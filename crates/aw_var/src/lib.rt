@@ -3,6 +3,7 @@
 #![tactic(auto)]
 
 mod fault;
+mod going;
 mod laws;
 mod numbered;
 mod patching;
@@ -11,6 +12,7 @@ mod variable;
 mod walk;
 
 pub use fault::VarFault;
+pub use going::CellIter;
 pub use laws::{
     composed_does_both, difference_gives_newer, difference_tells_apart, overwritten_is_map,
 };

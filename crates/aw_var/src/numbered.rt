@@ -1,16 +1,20 @@
-ghost use Rattle.std.specs.Prelude.{◌≡◌, ◌<◌, ◌≢◌, ◌↔◌, ◌^◌, ◌/◌, [], IsTrue, IsNone, IfSome, IfOk, OnOk, OnErr, unwrap_or, slice_index_or};
+ghost use Rattle.std.specs.Prelude.{◌≡◌, ◌<◌, ◌≤◌, ◌≢◌, ◌↔◌, ◌^◌, ◌/◌, ◌*◌, ◌+◌, [], length, IsTrue, IsNone, IfSome, IfOk, OnOk, OnErr, unwrap_or, slice_index_or};
 ghost use Rattle.aw_page.specs.Fitting.{is_of_kind};
 ghost use Rattle.aw_cell.specs.declared.cell.Cell.TheVariants.{Na};
 ghost use Rattle.std.specs.BTreeMap.{IsUnchanged};
 ghost use Rattle.aw_var.specs.inside.NumberedMap.{cell_of, set_of, difference_of, IsNumberedMap};
 ghost use Rattle.aw_var.specs.inside.Unpacking.{with_coords, AreNumbersOf};
-ghost use Rattle.aw_var.specs.inside.Sheets.{PutsCell, number_pages, AreSheets};
+ghost use Rattle.aw_var.specs.inside.Sheets.{PutsCell, number_pages, AreSheets, sheet_at, weight};
+ghost use Rattle.aw_var.specs.inside.Differences.{cell_on};
+ghost use Rattle.aw_var.specs.inside.NumberedPages.{HasNoSheet, AreCellsOn};
 
+use crate::going::CellIter;
 use crate::patching::{lesser, push_changes};
 use crate::sheet::Sheet;
 use crate::walk::Walk;
 use aw_cell::{Cell, Kind};
 use aw_lists::{Coord, List};
+use aw_page::Page;
 use std::alloc::{AllocError, Global};
 use std::collections::BTreeMap;
 use std::marker::Model;
@@ -20,6 +24,7 @@ use std::marker::Model;
 pub struct Numbered {
     kind: Kind,
     sheets: BTreeMap<u128, Sheet>,
+    count: u128,
     alloc: Global,
 }
 
@@ -28,37 +33,40 @@ impl Model for Numbered {
 
     ghost Value = { NumberedMap };
 
-    ghost use Rattle.aw_var.specs.inside.Sheets.{all_numbered, AreSheets};
+    ghost use Rattle.aw_var.specs.inside.Sheets.{all_numbered, AreCounted};
 
     ghost view = { λ n. record { kind = n.kind; cells = all_numbered n.sheets.entries } };
 
-    ghost invariant = { λ n. AreSheets n.kind n.sheets.entries };
+    ghost invariant = { λ n. AreCounted n.kind n.sheets.entries n.count };
 }
 
-/// Takes the cell at a place of a page away.
+/// Takes the cell at a place of a page away, and gives it.
 fn take_cell(
     sheets: &mut BTreeMap<u128, Sheet>,
     alloc: Global,
     kind: Kind,
     page: u128,
     at: u8,
-) -> Result<(), AllocError>
+) -> Result<Cell, AllocError>
     requires place { at < 64 }
     requires sheets { AreSheets kind sheets.old.entries }
     ensures ok { OnOk result (PutsCell kind sheets.old.entries sheets.new.entries page at Na) }
+    ensures before { IfOk result (λ before. before ≡ cell_on (sheet_at sheets.old.entries page) at) }
     ensures err { OnErr result (IsUnchanged sheets.old sheets.new) }
 {
     let Some(sheet) = sheets.get_mut(&page) else {
-        return Ok(());
+        return Ok(Cell::Na);
     };
+    let before = sheet.get(at);
     sheet.put(alloc, at, Cell::Na)?;
     if sheet.is_empty() {
         sheets.remove(&page);
     }
-    Ok(())
+    Ok(before)
 }
 
-/// Puts a cell that isn't NA in a place of a page, on a new sheet where the page has none.
+/// Puts a cell that isn't NA in a place of a page, on a new sheet where the page has none, and gives the
+/// cell that was there.
 fn put_cell(
     sheets: &mut BTreeMap<u128, Sheet>,
     alloc: Global,
@@ -66,21 +74,60 @@ fn put_cell(
     page: u128,
     at: u8,
     cell: Cell,
-) -> Result<(), AllocError>
+) -> Result<Cell, AllocError>
     requires place { at < 64 }
     requires present { cell ≢ Na }
     requires fitting { IsTrue (is_of_kind kind cell) }
     requires sheets { AreSheets kind sheets.old.entries }
     ensures ok { OnOk result (PutsCell kind sheets.old.entries sheets.new.entries page at cell) }
+    ensures before { IfOk result (λ before. before ≡ cell_on (sheet_at sheets.old.entries page) at) }
     ensures err { OnErr result (IsUnchanged sheets.old sheets.new) }
 {
     if let Some(sheet) = sheets.get_mut(&page) {
-        return sheet.put(alloc, at, cell);
+        let before = sheet.get(at);
+        sheet.put(alloc, at, cell)?;
+        return Ok(before);
     }
     let mut sheet = Sheet::new(alloc, kind)?;
     sheet.put(alloc, at, cell)?;
     sheets.insert(page, sheet)?;
-    Ok(())
+    Ok(Cell::Na)
+}
+
+/// Puts a cell in a place of a page, and gives the cell that was there.
+fn change(
+    sheets: &mut BTreeMap<u128, Sheet>,
+    alloc: Global,
+    kind: Kind,
+    page: u128,
+    at: u8,
+    cell: Cell,
+) -> Result<Cell, AllocError>
+    requires place { at < 64 }
+    requires fitting { IsTrue (is_of_kind kind cell) }
+    requires sheets { AreSheets kind sheets.old.entries }
+    ensures ok { OnOk result (PutsCell kind sheets.old.entries sheets.new.entries page at cell) }
+    ensures before { IfOk result (λ before. before ≡ cell_on (sheet_at sheets.old.entries page) at) }
+    ensures err { OnErr result (IsUnchanged sheets.old sheets.new) }
+{
+    if cell == Cell::Na {
+        take_cell(sheets, alloc, kind, page, at)
+    } else {
+        put_cell(sheets, alloc, kind, page, at, cell)
+    }
+}
+
+/// How many cells there are after one on so many pages is changed.
+fn recounted(count: u128, pages: usize, before: &Cell, after: &Cell) -> u128
+    requires few { count ≤ 64 * pages }
+    requires some { weight before.now ≤ count }
+    ensures { result + weight before.now ≡ count + weight after.now }
+{
+    match (*before == Cell::Na, *after == Cell::Na) {
+        (true, false) => count + 1,
+        (false, true) => count - 1,
+        _ => count,
+    }
 }
 
 impl Numbered {
@@ -91,6 +138,7 @@ impl Numbered {
         Numbered {
             kind,
             sheets: BTreeMap::new(alloc),
+            count: 0,
             alloc,
         }
     }
@@ -118,10 +166,35 @@ impl Numbered {
         ensures err { OnErr result (self.new ≡ self.old) }
     {
         let (page, at) = (number / 64, (number % 64) as u8);
-        if cell == Cell::Na {
-            take_cell(&mut self.sheets, self.alloc, self.kind, page, at)
-        } else {
-            put_cell(&mut self.sheets, self.alloc, self.kind, page, at, cell)
+        let pages = self.sheets.len();
+        let before = change(&mut self.sheets, self.alloc, self.kind, page, at, cell)?;
+        self.count = recounted(self.count, pages, &before, &cell);
+        Ok(())
+    }
+
+    /// How many cells it has.
+    pub fn len(&self) -> u128
+        ensures { result ≡ length self.now.cells }
+    {
+        self.count
+    }
+
+    /// Its cells in order, by the coordinates with so many slots that their numbers stand for.
+    pub fn iter(&self, slots: u8) -> CellIter<'_>
+        requires { AreNumbersOf slots self.now.cells }
+        ensures { result ≡ with_coords slots self.now.cells }
+    {
+        CellIter::new(slots, &self.sheets)
+    }
+
+    /// The page with a number, where the cells aren't TEXT and some of them are on it.
+    pub fn page(&self, number: u128) -> Option<&Page>
+        ensures none { IsNone result ↔ HasNoSheet self.now.kind self.now.cells number }
+        ensures cells { IfSome result (λ page. AreCellsOn self.now.cells number page.now) }
+    {
+        match self.sheets.get(&number) {
+            Some(sheet) => sheet.plain(),
+            None => None,
         }
     }
 
@@ -132,6 +205,7 @@ impl Numbered {
         Ok(Numbered {
             kind: self.kind,
             sheets: self.sheets.clone()?,
+            count: self.count,
             alloc: self.alloc,
         })
     }

@@ -59,7 +59,8 @@ pub fn coord_of(slots: u8, number: u128) -> Coord
     }
 }
 
-fn number_at(slots: u8, page: u128, place: u8) -> u128
+/// The number of a place of a page, where a key with so many slots has it.
+pub fn number_at(slots: u8, page: u128, place: u8) -> u128
     requires few { slots ≤ 6 }
     requires fits { 64 * page + place < 65536 ^ slots }
     ensures { result ≡ 64 * page + place }

@@ -5,6 +5,7 @@ ghost use Rattle.aw_cell.specs.declared.cell.Cell.TheVariants.{Na};
 ghost use Rattle.aw_page.specs.Fitting.{is_na, is_of_kind, IsPlain, IsTextOrNa};
 ghost use Rattle.aw_var.specs.inside.Sheets.{is_text_kind};
 ghost use Rattle.aw_var.specs.inside.Shared.{IsHeldBy};
+ghost use Rattle.aw_var.specs.inside.Walks.{IsFirstUsed};
 ghost use Rattle.aw_var.specs.inside.Differences.{cell_on};
 ghost use Rattle.std.specs.Option.{option_copied};
 
@@ -127,6 +128,28 @@ impl Sheet {
             }
         }
         true
+    }
+
+    /// How many places it has.
+    fn places(&self) -> u8
+        ensures size { result ≡ length self.now.1 }
+        ensures value { result ≡ 64 }
+    {
+        let _ = self.get(0);
+        64
+    }
+
+    /// The first place from one on whose cell isn't NA, with its cell.
+    pub fn used_from(&self, from: u8) -> Option<(u8, Cell)>
+        ensures { IsFirstUsed self.now.1 from result }
+    {
+        for place in from..self.places() {
+            let cell = self.get(place);
+            if cell != Cell::Na {
+                return Some((place, cell));
+            }
+        }
+        None
     }
 
     /// The page itself, where its cells aren't TEXT.

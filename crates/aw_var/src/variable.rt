@@ -1,16 +1,19 @@
 ghost use Rattle.std.specs.Prelude.{◌≡◌, ◌≤◌, ◌<◌, ◌↔◌, [], length, IsTrue, IsNone, IfSome, IfOk, OnOk, OnErr};
+ghost use Rattle.std.specs.Map.Iter.{GivesInOrder};
 ghost use Rattle.aw_lists.specs.Coord.{packed, AreSlots};
 ghost use Rattle.aw_page.specs.Fitting.{is_of_kind};
-ghost use Rattle.aw_var.specs.CellMap.{cell_at, set_at};
+ghost use Rattle.aw_var.specs.CellMap.{KeyedCell, cell_at, set_at};
 ghost use Rattle.aw_var.specs.CellPatch.{difference};
 ghost use Rattle.aw_var.specs.Pages.{page_count, HasNoPage, ArePageCells};
 ghost use Rattle.aw_var.specs.Variable.{IsVariable};
 
 use crate::fault::VarFault;
+use crate::going::CellIter;
 use crate::numbered::Numbered;
 use crate::patching::keep_range;
 use aw_cell::{Cell, Kind};
 use aw_lists::{Coord, List};
+use aw_page::Page;
 use std::alloc::{AllocError, Global};
 use std::marker::Model;
 
@@ -137,6 +140,30 @@ impl Variable {
         ensures valid { IsVariable self.now }
     {
         self.cells.is_empty()
+    }
+
+    /// How many of its cells aren't NA. It takes no memory, and one step.
+    pub fn len(&self) -> u128
+        ensures { result ≡ length self.now.cells }
+    {
+        self.cells.len()
+    }
+
+    /// Its keys in rising order, each with its cell, which isn't NA. It takes no memory.
+    pub fn iter(&self) -> CellIter<'_>
+        ensures rest { result ≡ self.now.cells }
+        ensures runs { GivesInOrder KeyedCell }
+    {
+        self.cells.iter(self.slots)
+    }
+
+    /// The 64 cells at the keys whose packed numbers divided by 64 are this number, in their order, NA
+    /// where a number is no key's; `None` where all are NA, and for TEXT. It takes no memory.
+    pub fn page(&self, number: u128) -> Option<&Page>
+        ensures none { IsNone result ↔ HasNoPage self.now.kind self.now.cells number }
+        ensures cells { IfSome result (λ page. ArePageCells self.now.cells number page.now) }
+    {
+        self.cells.page(number)
     }
 
     /// An equal variable.

@@ -1,5 +1,5 @@
 -- How two maps differ, sheet by sheet.
-use Rattle.std.specs.Prelude.{ℕ, ◌≡◌, ◌<◌, ◌^◌, ◌*◌, min, ◌+◌, ◌-◌, zero, suc, cond, List, [], ◌∷◌, slice_index_or, Option, Some, None}
+use Rattle.std.specs.Prelude.{ℕ, ◌≡◌, ◌<◌, ◌^◌, ◌*◌, min, ◌+◌, zero, suc, cond, List, [], ◌∷◌, slice_index_or, Option, Some, None}
 use Rattle.aw_cell.specs.declared.cell.Cell.{Cell}
 use Rattle.aw_cell.specs.declared.cell.Cell.TheVariants.{Na}
 use Rattle.aw_cell.specs.Cell.{same_cell}

@@ -1,5 +1,5 @@
 -- How cells lie in sheets. A sheet has the 64 cells of one page, and says whether they are TEXT.
-use Rattle.std.specs.Prelude.{ℕ, ◌≡◌, ◌+◌, ◌*◌, Bool as Truth, true, false, not, cond, IsTrue, List, [], ◌∷◌, ◌++◌, length, replicate, slice_set, unwrap_or, Option, Some, None, ◌/◌, ◌==◌}
+use Rattle.std.specs.Prelude.{ℕ, ◌≡◌, ◌+◌, ◌*◌, Bool as Truth, true, false, cond, IsTrue, List, [], ◌∷◌, ◌++◌, length, replicate, slice_set, unwrap_or, Option, Some, None, ◌/◌, ◌==◌}
 use Rattle.std.specs.List.{list_all, list_any}
 use Rattle.std.specs.List.Sorted.{IsStrictlySortedBy}
 use Rattle.std.specs.Map.{keys_of, lookup}
@@ -67,3 +67,12 @@ pub record PutsCell (kind : Kind) (old new : Sheets) (page place : ℕ) (cell : 
 abbrev pub number_pages : List (ℕ × Cell) → ℕ
 number_pages [] = 0
 number_pages (pair ∷ cells) = cond (list_any (λ other. other.0 / 64 == pair.0 / 64) cells) 0 1 + number_pages cells
+
+-- a cell that isn't NA counts one
+abbrev pub weight : Cell → ℕ
+weight cell = cond (is_na cell) 0 1
+
+-- the sheets of a kind, and how many cells are on them
+pub record AreCounted (kind : Kind) (entries : Sheets) (cells : ℕ) : Type 0 where
+  pub sheets : AreSheets kind entries
+  pub count : cells ≡ length (all_numbered entries)

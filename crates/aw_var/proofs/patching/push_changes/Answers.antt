@@ -1,8 +1,7 @@
-use Rattle.std.proofs.Common.{◌≡◌, ◌∙◌, ◌++◌, ◌∷◌, [], ◌+◌, ◌-◌, ◌*◌, refl, sym, ap, List, ℕ}
+use Rattle.std.proofs.Common.{◌∙◌, ◌++◌, ◌∷◌, [], ◌+◌, ◌-◌, ◌*◌, sym, ap}
 use Rattle.std.specs.Option.{option_copied}
 use Rattle.aw_cell.specs.Cell.{same_cell}
-use Rattle.aw_var.specs.CellMap.{Cells}
-use Rattle.aw_var.specs.inside.Differences.{cell_on, changes_on}
+use Rattle.aw_var.specs.inside.Differences.{changes_on}
 use Rattle.aw_var.specs.inside.Unpacking.{unpacked, with_coords}
 use Rattle.aw_var.proofs.GoingOver.{changes-same, changes-differ, changes-none, differs, is_same}
 use Rattle.aw_var.proofs.patching.push_changes.Goals as goal

@@ -1,4 +1,4 @@
-use Rattle.std.proofs.Common.{◌≡◌, ◌-◌, ◌+◌, ◌<◌, ◌^◌, ℕ, List, length, arith, subst, ap, sym}
+use Rattle.std.proofs.Common.{◌≡◌, ◌-◌, ◌+◌, ◌<◌, ◌^◌, arith, subst, sym}
 use Rattle.aw_var.proofs.Digits.{DigitsFrom, digits_more, digits_end}
 use Rattle.aw_var.proofs.patching.write_digits.Goals as goal
 

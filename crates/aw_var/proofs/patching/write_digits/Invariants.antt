@@ -1,5 +1,3 @@
-use Rattle.std.proofs.Common.{◌≡◌, ◌≤◌, ◌+◌, ◌-◌, ◌*◌, ◌^◌, length, drop}
-use Rattle.aw_lists.specs.Coord.{packed}
 use Rattle.aw_var.proofs.Digits.{DigitsFrom}
 use Rattle.aw_var.proofs.patching.write_digits.Given as goal
 

@@ -1,4 +1,4 @@
-use Rattle.std.proofs.Common.{◌≡◌, ℕ, ◌∙◌, refl, sym, ap, arith, below_more, get_or}
+use Rattle.std.proofs.Common.{◌≡◌, ◌∙◌, sym, arith, below_more, get_or}
 use Rattle.std.proofs.lemmas.Option.{get_or_from_slice_get}
 use Rattle.aw_cell.specs.declared.cell.Cell.TheVariants.{Na}
 use Rattle.aw_var.proofs.Blank.{blank_from, used_from, some_of, na_from}

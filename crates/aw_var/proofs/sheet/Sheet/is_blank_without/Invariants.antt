@@ -1,4 +1,4 @@
-use Rattle.std.proofs.Common.{◌≡◌, ℕ, ◌<◌, ◌≤◌, get_or, length}
+use Rattle.std.proofs.Common.{◌≡◌, ℕ, ◌<◌, get_or}
 use Rattle.aw_cell.specs.declared.cell.Cell.TheVariants.{Na}
 use Rattle.aw_var.proofs.sheet.Sheet.is_blank_without.Given as goal
 

@@ -1,5 +1,4 @@
 use Rattle.std.proofs.Common.{◌≡◌, ℕ, ◌<◌, ◌↔◌, ◌∙◌, IsTrue, ap, sym, subst, length}
-use Rattle.aw_lists.specs.Coord.{packed}
 use Rattle.aw_var.specs.declared.variable.TheConstants.{MOST_PAGES}
 use Rattle.aw_var.specs.Variable.{Contents}
 use Rattle.aw_var.specs.inside.NumberedMap.{set_of}

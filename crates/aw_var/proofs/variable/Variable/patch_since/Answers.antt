@@ -1,4 +1,4 @@
-use Rattle.aw_var.proofs.Unpacking.{kinds, numbers-as, difference-after}
+use Rattle.aw_var.proofs.Unpacking.{difference-after}
 use Rattle.aw_var.proofs.variable.Variable.patch_since.Goals as goal
 
 pub returns : goal.returns

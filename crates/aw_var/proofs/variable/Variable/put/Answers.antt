@@ -1,7 +1,7 @@
 use Rattle.std.proofs.Common.{◌≡◌, ℕ, ◌∙◌, ap, sym, subst, length, OnOk}
 use Rattle.aw_lists.specs.Coord.{packed}
 use Rattle.aw_var.specs.Variable.{Contents}
-use Rattle.aw_var.specs.inside.NumberedMap.{NumberedMap, set_of}
+use Rattle.aw_var.specs.inside.NumberedMap.{set_of}
 use Rattle.aw_var.proofs.Unpacking.{AreNumbersOf-after, contents-after}
 use Rattle.aw_var.proofs.variable.Variable.put.Goals as goal
 
