@@ -23,9 +23,9 @@ not_damaged images image offset formatted is damaged =
 
 module _ (images : List ℕ → Type 0) (formatted : AreFormatted images) where
   -- a dump without a fault of the disk or the sink
-  pub dump_completes : (status : ℕ) (content before now : Option (List ℕ)) → ((image : List ℕ) → content ≡ Some image → images image) → IsSome content → EndsDump status content before now → (status ≡ 4 → ⊥) → (status ≡ 5 → ⊥) → CompletesDump status
-  dump_completes status None before now is told ends sink disk = absurd (true≢false (sym told))
-  dump_completes status (Some image) before now is told ends sink disk = elim ends.statuses [
+  pub dump_completes : (status : ℕ) (content : Option (List ℕ)) (left : List ℕ → Type 0) (before now : Option (List ℕ)) → ((image : List ℕ) → content ≡ Some image → images image) → IsSome content → EndsDump status content left before now → (status ≡ 4 → ⊥) → (status ≡ 5 → ⊥) → CompletesDump status
+  dump_completes status None left before now is told ends sink disk = absurd (true≢false (sym told))
+  dump_completes status (Some image) left before now is told ends sink disk = elim ends.statuses [
     | inl zero ↦ inl zero
     | inr (inl four) ↦ absurd (sink four)
     | inr (inr (inl five)) ↦ absurd (disk five)

@@ -1,2 +1,3 @@
 pub mod Completing
 mod Objects
+mod WholeDumps

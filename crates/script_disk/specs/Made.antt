@@ -22,10 +22,12 @@ module _ {D : Type 0} (content : D → Option (List ℕ)) (faults clock : D → 
     pub was : IfSome (content old) IsFormatted
     pub stays : Undisturbed content faults clock crash old new
 
-  -- What the sink had and has now, where it tells, by the status. At each moment of the call a crash leaves what it might
-  -- have left before, but for the first 9 bytes and what lies past the end.
+  -- What the sink had and has now, where it tells, by the status. A workspace keeps its content and its images, whatever
+  -- the status. At each moment of the call a crash leaves what it might have left before, but for the first 9 bytes and
+  -- what lies past the end.
   pub record Makes (before now : Option (List ℕ)) (status : ℕ) : Type 0 where
     pub statuses : (status ≡ 0) ⊎ (status ≡ 4) ⊎ (status ≡ 5) ⊎ (status ≡ 9)
+    pub kept : IfSome (content old) (λ bytes. IsFormatted bytes → Undisturbed content faults clock crash old new)
     pub made : status ≡ 0 → IsMade × Grows before now done
     pub left : status ≡ 9 → IsLeft × Grows before now already_a_workspace
     pub cut : status ≡ 4 → (IsMade × GrowsByFront before now done) ⊎ (IsLeft × GrowsByFront before now already_a_workspace)

@@ -65,7 +65,7 @@ struct Devices<'a, K> {
 
 fn dump_disk<'a, K: Sink, D: Disk>(disk: D, devices: Devices<'a, K>) -> (D, (u8, Devices<'a, K>))
     ensures same_sink { result.1.1.out.ghost_name ≡ devices.entry.out.ghost_name }
-    ensures ends { EndsDump result.1.0 (D.content disk) (K.written devices.entry.out.now) (K.written result.1.1.out.now) }
+    ensures ends { EndsDump result.1.0 (D.content disk) (D.crash result.0 (D.clock result.0)) (K.written devices.entry.out.now) (K.written result.1.1.out.now) }
     ensures stays { D.content result.0 ≡ D.content disk }
     ensures moments { Passed (D.clock disk) (D.clock result.0) (D.crash disk) (D.crash result.0) (D.crash disk (D.clock disk)) }
     ensures disk_later { D.faults disk ≤ D.faults result.0 }
