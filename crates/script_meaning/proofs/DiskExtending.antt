@@ -11,7 +11,7 @@ use Rattle.mv_core.specs.Workspace.{Workspace, standing}
 use Rattle.ses_step.specs.declared.answer.Answer.TheVariants.{Done}
 use Rattle.ses_step.specs.declared.line.Command.TheVariants as command
 use Rattle.ses_step.specs.declared.session.Begun.TheVariants.{Ask}
-use Rattle.ses_step.specs.declared.session.Session.{Session}
+use Rattle.ses_step.specs.declared.session.Known.{Known as Session}
 use Rattle.ses_step.specs.declared.session.View.{View}
 use Rattle.ses_step.specs.Answers.{is_refusal}
 use Rattle.ses_step.specs.Sessions.{begun, located, finished}

@@ -12,7 +12,7 @@ use Rattle.ses_report.specs.declared.refusal.Refusal.{Refusal}
 use Rattle.ses_step.specs.declared.line.Command.{Command}
 use Rattle.ses_step.specs.declared.session.Begun.{Begun}
 use Rattle.ses_step.specs.declared.session.Begun.TheVariants.{Said, Ask}
-use Rattle.ses_step.specs.declared.session.Session.{Session}
+use Rattle.ses_step.specs.declared.session.Known.{Known as Session}
 use Rattle.ses_step.specs.declared.session.View.{View}
 use Rattle.aw_cell.specs.declared.cell.Cell.TheVariants.{Int}
 use Rattle.ses_report.specs.Refusals.{disk_fault, not_attached, already_attached}

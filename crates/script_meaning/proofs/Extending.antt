@@ -23,7 +23,7 @@ use Rattle.ses_step.specs.declared.line.Command.TheVariants as command
 use Rattle.ses_step.specs.declared.answer.Answer.{Answer}
 use Rattle.ses_step.specs.declared.answer.Answer.TheVariants.{Done, Refused}
 use Rattle.ses_step.specs.declared.session.Begun.TheVariants.{Said, Ask}
-use Rattle.ses_step.specs.declared.session.Session.{Session}
+use Rattle.ses_step.specs.declared.session.Known.{Known as Session}
 use Rattle.ses_step.specs.declared.session.View.{View}
 use Rattle.ses_step.specs.Words.{place_of}
 use Rattle.ses_report.specs.Refusals.{not_attached, full}

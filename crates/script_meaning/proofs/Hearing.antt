@@ -14,7 +14,7 @@ use Rattle.ses_report.specs.declared.refusal.Refusal.{Refusal}
 use Rattle.ses_step.specs.declared.line.Command.{Command}
 use Rattle.ses_step.specs.declared.line.Line.{Line}
 use Rattle.ses_step.specs.declared.line.Line.TheVariants as line
-use Rattle.ses_step.specs.declared.session.Session.{Session}
+use Rattle.ses_step.specs.declared.session.Known.{Known as Session}
 use Rattle.ses_step.specs.Lines.{line_form}
 use Rattle.script_meaning.proofs.Begins.{IsOwn, begins}
 use Rattle.script_meaning.proofs.FittingTurns.{acquire_reply-cases, commit_reply-cases}

@@ -20,7 +20,7 @@ use Rattle.mv_core.specs.Owners.{owner_of}
 use Rattle.mv_core.specs.Integers.{integers}
 use Rattle.mv_core.specs.SharedStep.{first_worn, fresh_from, reply_of, workspace_after}
 use Rattle.ses_step.specs.declared.line.Command.{Command}
-use Rattle.ses_step.specs.declared.session.Session.{Session}
+use Rattle.ses_step.specs.declared.session.Known.{Known as Session}
 use Rattle.ses_step.specs.declared.session.View.{View}
 use Rattle.ses_report.specs.Refusals.{no_form}
 use Rattle.ses_step.specs.Sessions.{seen, updated, change_of_view, committed_view, owning_in, with_view, finished}

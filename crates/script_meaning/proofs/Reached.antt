@@ -16,7 +16,7 @@ use Rattle.mv_core.specs.Generations.{changes_of}
 use Rattle.mv_core.specs.Integers.{integers}
 use Rattle.mv_core.specs.Owners.{owner_of}
 use Rattle.mv_core.specs.Workspace.{Workspace}
-use Rattle.ses_step.specs.declared.session.Session.{Session}
+use Rattle.ses_step.specs.declared.session.Known.{Known as Session}
 use Rattle.ses_step.specs.declared.session.View.{View}
 use Rattle.ses_step.specs.Sessions.{new_session}
 use Rattle.script_world.specs.Worlds.{Event, script_ends, with_session, closed, world_after}

@@ -10,7 +10,7 @@ use Rattle.mv_core.specs.Generations.{latest_body}
 use Rattle.mv_core.specs.Integers.{integers}
 use Rattle.ses_step.specs.declared.line.Command.{Command}
 use Rattle.ses_step.specs.declared.line.Command.TheVariants as command
-use Rattle.ses_step.specs.declared.session.Session.{Session}
+use Rattle.ses_step.specs.declared.session.Known.{Known as Session}
 use Rattle.ses_step.specs.declared.session.View.{View}
 use Rattle.ses_step.specs.Sessions.{new_session}
 use Rattle.script_world.specs.Worlds.{Event, Answered, session_of, silent, refused_so, with_definitions, with_session, own_session, commanded, shared_of, closed, settled, answered, world_after}

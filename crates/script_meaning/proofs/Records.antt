@@ -20,7 +20,7 @@ use Rattle.mv_core.specs.Workspace.{Workspace, standing}
 use Rattle.aw_store.specs.Images.{AreRecords}
 use Rattle.aw_store.specs.Replay.{can_replay, names_of, commits_of, commit_record, is_commit_among}
 use Rattle.aw_store.specs.Stores.{record_of}
-use Rattle.ses_step.specs.declared.session.Session.{Session}
+use Rattle.ses_step.specs.declared.session.Known.{Known as Session}
 use Rattle.script_world.specs.Outcomes.{Outcome}
 use Rattle.script_world.proofs.DiskFits.{Recorded}
 use Rattle.script_meaning.specs.Values.{in_range}

@@ -5,7 +5,7 @@ use Rattle.std.proofs.lemmas.Bool.{lt-ltb}
 use Rattle.ses_step.specs.declared.line.Command.{Command}
 use Rattle.ses_step.specs.declared.session.Begun.{Begun}
 use Rattle.ses_step.specs.declared.session.Begun.TheVariants.{Said, Ask}
-use Rattle.ses_step.specs.declared.session.Session.{Session}
+use Rattle.ses_step.specs.declared.session.Known.{Known as Session}
 use Rattle.ses_step.specs.Answers.{answer_of}
 use Rattle.ses_step.specs.Sessions.{begun}
 use Rattle.script_world.specs.Worlds.{World, Machine, answers, name_at, answered_so, session_place, with_name, with_session, own_session, begun_so, commanded, crowded_out, shared_of, closed, form_planned, settled}

@@ -9,7 +9,7 @@ use Rattle.mv_core.specs.Integers.{integers}
 use Rattle.ses_step.specs.declared.answer.Answer.{Answer}
 use Rattle.ses_step.specs.declared.answer.Answer.TheVariants.{Done, Refused}
 use Rattle.ses_step.specs.declared.line.Command.TheVariants as command
-use Rattle.ses_step.specs.declared.session.Session.{Session}
+use Rattle.ses_step.specs.declared.session.Known.{Known as Session}
 use Rattle.ses_step.specs.declared.session.View.{View}
 use Rattle.ses_report.specs.Refusals.{full, disk_fault}
 use Rattle.ses_step.specs.Sessions.{is_staged, name_at}

@@ -10,7 +10,7 @@ use Rattle.mv_core.specs.Owners.{owner_of}
 use Rattle.mv_core.specs.Workspace.{Workspace}
 use Rattle.aw_cell.specs.Cell.{is_integer_cell}
 use Rattle.mv_core.specs.Integers.{integers}
-use Rattle.ses_step.specs.declared.session.Session.{Session}
+use Rattle.ses_step.specs.declared.session.Known.{Known as Session}
 use Rattle.ses_step.specs.declared.session.View.{View}
 use Rattle.script_world.specs.Worlds.{first_sessions}
 use Rattle.script_meaning.specs.Language.{language, HistoryWorld}

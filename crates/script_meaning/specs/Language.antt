@@ -21,7 +21,7 @@ use Rattle.ses_step.specs.declared.line.Command.{Command}
 use Rattle.ses_step.specs.declared.answer.Answer.TheVariants.{Refused}
 use Rattle.ses_step.specs.declared.session.Begun.{Begun}
 use Rattle.ses_step.specs.declared.session.Begun.TheVariants.{Said, Ask}
-use Rattle.ses_step.specs.declared.session.Session.{Session}
+use Rattle.ses_step.specs.declared.session.Known.{Known as Session}
 use Rattle.ses_step.specs.Words.{place_of}
 use Rattle.ses_step.specs.Lines.{line_form}
 use Rattle.ses_step.specs.Answers.{answer_of}

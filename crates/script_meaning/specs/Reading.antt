@@ -12,7 +12,7 @@ use Rattle.mv_core.specs.Workspace.{Workspace}
 use Rattle.ses_step.specs.declared.answer.Answer.TheVariants.{Done, Shown}
 use Rattle.ses_step.specs.declared.line.Command.{Command}
 use Rattle.ses_step.specs.declared.line.Command.TheVariants as command
-use Rattle.ses_step.specs.declared.session.Session.{Session}
+use Rattle.ses_step.specs.declared.session.Known.{Known as Session}
 use Rattle.ses_step.specs.declared.session.View.{View}
 use Rattle.ses_step.specs.Words.{place_of}
 use Rattle.script_world.specs.Worlds.{Event, session_of, answered}

@@ -21,10 +21,11 @@ use Rattle.ses_step.specs.Answers.{answer_of}
 use Rattle.ses_step.specs.declared.line.Command.{Command}
 use Rattle.ses_step.specs.declared.line.Line.{Line}
 use Rattle.ses_step.specs.declared.line.Line.TheVariants as line
+use Rattle.ses_step.specs.declared.session.Known.{Known}
 use Rattle.ses_step.specs.declared.session.Session.{Session}
 use Rattle.ses_step.specs.Words.{place_of}
 use Rattle.ses_step.specs.Lines.{line_form}
-use Rattle.ses_step.specs.Sessions.{new_session, name_at}
+use Rattle.ses_step.specs.Sessions.{new_session, resting, name_at}
 use Rattle.script_world.specs.Outcomes.{Outcome, done, Attempt, OnDisk, as_done, all_attempts, attempts_of}
 use Rattle.script_world.specs.Worlds.{Answered, answered_so, refused_so, no_session, silent, defined, defined_so, answers, session_place, with_session, closed, shared_of, commanded, crowded_out, session_planned, settled, block_ends, script_ends}
 use Rattle.script_world.proofs.Moves.{position-le}
@@ -41,7 +42,7 @@ use Rattle.script_play.specs.declared.world.StoreWorld.{StoreWorld}
 use Rattle.script_play.specs.declared.response.Response.{Response}
 use Rattle.script_play.specs.declared.stop.Stop.{Stop}
 use Rattle.script_play.specs.declared.stop.Stop.TheVariants.{SinkFault, DiskFault, NoMemory}
-use Rattle.script_play.specs.StoreWorlds.{on_machine, IsMade, IsSound, answered_by, refused_response, can_join, JoinsSo, own_place, placed}
+use Rattle.script_play.specs.StoreWorlds.{known_by, own_known, on_machine, IsMade, IsSound, answered_by, refused_response, can_join, JoinsSo, own_place, placed}
 use Rattle.script_play.specs.Turning.{machine, Means, joined, defining, IsOpen, DefinesName, command_means, session_means, named_means, form_means, event_means, Moves, Turned, TurnTakes, TurnWants, TurnsAt, Answers, Responds, Takes, Wants, Opens, ClosesSo, StopsSo, RespondsSo}
 use Rattle.script_play.proofs.Turning.{moves-nothing, moves-then}
 
@@ -78,6 +79,25 @@ set-held [] i default inside = refl
 set-held (x ∷ xs) zero default inside = refl
 set-held (x ∷ xs) (suc i) default inside = ap (λ rest. x ∷ rest) (set-held xs i default (omega (arith, inside)))
 
+-- what the sessions know, where one is set or looked up
+known-length : (sessions : List Session) → length (known_by sessions) ≡ length sessions
+known-length [] = refl
+known-length (session ∷ sessions) = ap suc (known-length sessions)
+
+known-index : (sessions : List Session) (i : ℕ) (default : Session) → slice_index_or (known_by sessions) i default.known ≡ (slice_index_or sessions i default).known
+known-index [] i default = refl
+known-index (session ∷ sessions) zero default = refl
+known-index (session ∷ sessions) (suc i) default = known-index sessions i default
+
+known-set : (sessions : List Session) (i : ℕ) (new : Session) → slice_set (known_by sessions) i new.known ≡ known_by (slice_set sessions i new)
+known-set [] i new = refl
+known-set (session ∷ sessions) zero new = refl
+known-set (session ∷ sessions) (suc i) new = ap (λ rest. session.known ∷ rest) (known-set sessions i new)
+
+known-push : (sessions : List Session) (new : Session) → known_by (sessions ++ new ∷ []) ≡ known_by sessions ++ new.known ∷ []
+known-push [] new = refl
+known-push (session ∷ sessions) new = ap (λ rest. session.known ∷ rest) (known-push sessions new)
+
 module _ {D : Type 0} (faults clock : D → ℕ) (crash : D → ℕ → List ℕ → Type 0) where
   -- an event that changes nothing
   pub answers_still : (means : Means) (response : Option Response) (w : StoreWorld (StoreState D)) → ((next : ℕ → Outcome) (opened : Option Decoded) (tried : List (Attempt Decoded)) → means next (on_machine opened tried w) ≡ answered_by response (on_machine opened tried w)) → Answers faults clock crash means response w w
@@ -112,21 +132,23 @@ module _ {D : Type 0} (faults clock : D → ℕ) (crash : D → ℕ → List ℕ
       let said : response ≡ refused_response (name_at w.names who) = response_is ∙ ap refused_response prefix_is in
       subst (λ it. Answers faults clock crash (command_means who command) (Some it) w w) (sym said) (subst (λ it. Answers faults clock crash (command_means who it) (Some (refused_response (name_at w.names who))) w w) (sym is)
       (answers_still (command_means who None) (Some (refused_response (name_at w.names who))) w (λ next opened tried.
-      ap (λ (those : List Session). let it : ObjectsWorld = record (on_machine opened tried w) { sessions = those } in answered_by (Some (refused_response (name_at w.names who))) it) (set-held w.sessions who (new_session who) here))))
+      ap (λ (those : List Known). let it : ObjectsWorld = record (on_machine opened tried w) { sessions = those } in answered_by (Some (refused_response (name_at w.names who))) it) (set-held (known_by w.sessions) who (new_session who) (omega (arith, here, known-length w.sessions))))))
 
   module _ (who : ℕ) (it : Command) (old : StoreWorld (StoreState D)) (names : List (List ℕ)) (is : names_of old.store.records ≡ Some names) where
     -- the world by what is found of the names, and with another store and other sessions
-    abbrev over : Option Decoded → List (Attempt Decoded) → StoreState D → List Session → Option (List (List ℕ)) → ObjectsWorld
+    abbrev over : Option Decoded → List (Attempt Decoded) → StoreState D → List Known → Option (List (List ℕ)) → ObjectsWorld
     over opened tried store sessions found = record { definitions = old.definitions; open_lines = []; shared = option_map (store_disk opened tried) (option_map (λ (names : List (List ℕ)). store) found); names = old.names; sessions = sessions }
 
     abbrev taken : (ℕ → Outcome) → Option Decoded → List (Attempt Decoded) → Turn ObjectsDisk
-    taken next opened tried = turn (machine next) old.definitions old.names (store_disk opened tried old.store) (slice_index_or old.sessions who (new_session who)) it
+    taken next opened tried = turn (machine next) old.definitions old.names (store_disk opened tried old.store) (own_known old who) it
 
-    command-is : (next : ℕ → Outcome) (opened : Option Decoded) (tried : List (Attempt Decoded)) → command_means who (Some it) next (on_machine opened tried old) ≡ with_turn (over opened tried old.store old.sessions (Some names)) who (taken next opened tried)
+    command-is : (next : ℕ → Outcome) (opened : Option Decoded) (tried : List (Attempt Decoded)) → command_means who (Some it) next (on_machine opened tried old) ≡ with_turn (over opened tried old.store (known_by old.sessions) (Some names)) who (taken next opened tried)
     command-is next opened tried =
-        ap (λ found. command_means who (Some it) next (over opened tried old.store old.sessions found)) is ∙ commanded-turn (machine next) (over opened tried old.store old.sessions (Some names)) who (store_disk opened tried old.store) refl it
+        ap (λ found. command_means who (Some it) next (over opened tried old.store (known_by old.sessions) found)) is
+        ∙ commanded-turn (machine next) (over opened tried old.store (known_by old.sessions) (Some names)) who (store_disk opened tried old.store) refl it
+        ∙ ap (λ (known : Known). with_turn (over opened tried old.store (known_by old.sessions) (Some names)) who (turn (machine next) old.definitions old.names (store_disk opened tried old.store) known it)) (known-index old.sessions who (resting (new_session who)))
 
-    command-answers : (answer : Answer) (after : Session) (store : StoreState D) → Turned faults clock crash old.definitions old.names it answer (slice_index_or old.sessions who (new_session who)) after old.store store →
+    command-answers : (answer : Answer) (after : Session) (store : StoreState D) → Turned faults clock crash old.definitions old.names it answer (own_known old who) after.known old.store store →
         Answers faults clock crash (command_means who (Some it)) (Some (record { prefix = name_at old.names who; answer = answer })) old (record old { store = store; sessions = slice_set old.sessions who after })
     command-answers answer after store t = record {
       told = t.told;
@@ -135,8 +157,9 @@ module _ {D : Type 0} (faults clock : D → ℕ) (crash : D → ℕ → List ℕ
       moves = t.moves;
       means_so = λ next opened tried made tells.
           command-is next opened tried
-          ∙ ap (with_turn (over opened tried old.store old.sessions (Some names)) who) (t.turns next opened tried tells)
-          ∙ ap (λ found. let w : ObjectsWorld = over opened (tried ++ t.more) store (slice_set old.sessions who after) found in answered_so (name_at old.names who) (answer_of answer) w) (sym (t.moves.keeps_open names is));
+          ∙ ap (with_turn (over opened tried old.store (known_by old.sessions) (Some names)) who) (t.turns next opened tried tells)
+          ∙ ap (λ (sessions : List Known). let w : ObjectsWorld = over opened (tried ++ t.more) store sessions (Some names) in answered_so (name_at old.names who) (answer_of answer) w) (known-set old.sessions who after)
+          ∙ ap (λ found. let w : ObjectsWorld = over opened (tried ++ t.more) store (known_by (slice_set old.sessions who after)) found in answered_so (name_at old.names who) (answer_of answer) w) (sym (t.moves.keeps_open names is));
       all_made = λ opened tried made none. absurd (none-some names (sym none ∙ t.moves.keeps_open names is));
       keeps_sound = λ sound. record {
         paired = length-set old.sessions who after ∙ sound.paired;
@@ -146,7 +169,7 @@ module _ {D : Type 0} (faults clock : D → ℕ) (crash : D → ℕ → List ℕ
       };
     }
 
-    command-takes : (new : StoreWorld (StoreState D)) → TurnTakes faults clock crash old.definitions old.names it (slice_index_or old.sessions who (new_session who)) old.store new.store → Takes faults clock crash (command_means who (Some it)) old new
+    command-takes : (new : StoreWorld (StoreState D)) → TurnTakes faults clock crash old.definitions old.names it (own_known old who) old.store new.store → Takes faults clock crash (command_means who (Some it)) old new
     command-takes new t = record {
       told = t.told;
       more = t.more;
@@ -160,7 +183,7 @@ module _ {D : Type 0} (faults clock : D → ℕ) (crash : D → ℕ → List ℕ
       let at : P (Some it) (name_at old.names who) (record old { store = new.store; sessions = slice_set old.sessions who turns.after }) = command-answers who it old open_is.0 open_is.1 answer turns.after new.store turns.turned in
       subst (λ c. P c prefix new) (sym is) (subst (λ p. P (Some it) p new) (sym prefix_is) (subst (P (Some it) (name_at old.names who)) (sym turns.rest) at))
 
-  pub command_wants : (who : ℕ) (command : Option Command) (it : Command) (old new : StoreWorld (StoreState D)) → command ≡ Some it → IsOpen old.store → TurnWants faults clock crash old.definitions old.names it (slice_index_or old.sessions who (new_session who)) old.store new.store → Wants faults clock crash (command_means who command) old new
+  pub command_wants : (who : ℕ) (command : Option Command) (it : Command) (old new : StoreWorld (StoreState D)) → command ≡ Some it → IsOpen old.store → TurnWants faults clock crash old.definitions old.names it (own_known old who) old.store new.store → Wants faults clock crash (command_means who command) old new
   command_wants who command it old new is open_is wants =
       subst (λ c. Wants faults clock crash (command_means who c) old new) (sym is)
       (⊎_elim (λ same. let it : Wants faults clock crash (command_means who (Some it)) old new = inl same in it) (λ takes. inr (command-takes who it old open_is.0 open_is.1 new takes)) wants)
@@ -173,12 +196,22 @@ module _ {D : Type 0} (faults clock : D → ℕ) (crash : D → ℕ → List ℕ
       there : ObjectsWorld
       there = on_machine opened tried w
 
-      more : List Session
-      more = if nat_lt (length w.names) 64 then w.sessions ++ new_session (length w.names) ∷ [] else w.sessions
+      next : Session
+      next = resting (new_session (length w.names))
 
-      by_test : (test : Bool) → (if test then there else record there { names = w.names ++ name ∷ []; sessions = more }) ≡ record there { names = if test then w.names else w.names ++ name ∷ []; sessions = if test then w.sessions else more }
+      by_room : (room : Bool) → (if room then known_by w.sessions ++ next.known ∷ [] else known_by w.sessions) ≡ known_by (if room then w.sessions ++ next ∷ [] else w.sessions)
+      by_room true = sym (known-push w.sessions next)
+      by_room false = refl
+
+      more : List Session
+      more = if nat_lt (length w.names) 64 then w.sessions ++ next ∷ [] else w.sessions
+
+      more_known : List Known
+      more_known = if nat_lt (length w.names) 64 then known_by w.sessions ++ next.known ∷ [] else known_by w.sessions
+
+      by_test : (test : Bool) → (if test then there else record there { names = w.names ++ name ∷ []; sessions = more_known }) ≡ record there { names = if test then w.names else w.names ++ name ∷ []; sessions = known_by (if test then w.sessions else more) }
       by_test true = refl
-      by_test false = refl
+      by_test false = ap (λ (sessions : List Known). let it : ObjectsWorld = record there { names = w.names ++ name ∷ []; sessions = sessions } in it) (by_room (nat_lt (length w.names) 64))
 
   abbrev planned_at : (ℕ → Outcome) → Option Command → ℕ → ObjectsWorld → Bool → Answered language ObjectsDisk
   planned_at next command place w room =
@@ -196,12 +229,12 @@ module _ {D : Type 0} (faults clock : D → ℕ) (crash : D → ℕ → List ℕ
     no_sessions = λ none. absurd (none-some open_is.0 (sym none ∙ open_is.1));
   }
     where
-      by_room : (room : Bool) → nat_lt (length w.names) 64 ≡ room → length (if room then w.sessions ++ new_session (length w.names) ∷ [] else w.sessions) ≡ min (length (w.names ++ name ∷ [])) 64
+      by_room : (room : Bool) → nat_lt (length w.names) 64 ≡ room → length (if room then w.sessions ++ resting (new_session (length w.names)) ∷ [] else w.sessions) ≡ min (length (w.names ++ name ∷ [])) 64
       by_room true room =
-          omega (arith, sound.paired, ltb-true (length w.names) 64 room, length-append w.sessions (new_session (length w.names) ∷ []), length-append w.names (name ∷ []))
+          omega (arith, sound.paired, ltb-true (length w.names) 64 room, length-append w.sessions (resting (new_session (length w.names)) ∷ []), length-append w.names (name ∷ []))
       by_room false full = omega (arith, sound.paired, ltb-false (length w.names) 64 full, length-append w.names (name ∷ []))
 
-      by_test : (test : Bool) → length (if test then w.sessions else (if nat_lt (length w.names) 64 then w.sessions ++ new_session (length w.names) ∷ [] else w.sessions)) ≡ min (length (if test then w.names else w.names ++ name ∷ [])) 64
+      by_test : (test : Bool) → length (if test then w.sessions else (if nat_lt (length w.names) 64 then w.sessions ++ resting (new_session (length w.names)) ∷ [] else w.sessions)) ≡ min (length (if test then w.names else w.names ++ name ∷ [])) 64
       by_test true = sound.paired
       by_test false = by_room (nat_lt (length w.names) 64) refl
 
@@ -209,12 +242,12 @@ module _ {D : Type 0} (faults clock : D → ℕ) (crash : D → ℕ → List ℕ
   pub placed-inside : (w : StoreWorld (StoreState D)) (name : List ℕ) → length w.sessions ≡ min (length w.names) 64 → own_place w name < 64 → own_place w name < length (placed w name).sessions
   placed-inside w name paired room = by_test (nat_lt (own_place w name) (length w.names)) refl
     where
-      by_room : (test : Bool) → nat_lt (length w.names) 64 ≡ test → nat_lt (own_place w name) (length w.names) ≡ false → own_place w name < length (if test then w.sessions ++ new_session (length w.names) ∷ [] else w.sessions)
+      by_room : (test : Bool) → nat_lt (length w.names) 64 ≡ test → nat_lt (own_place w name) (length w.names) ≡ false → own_place w name < length (if test then w.sessions ++ resting (new_session (length w.names)) ∷ [] else w.sessions)
       by_room true small is =
-          omega (arith, paired, ltb-true (length w.names) 64 small, length-append w.sessions (new_session (length w.names) ∷ []), position-le (same_word name) w.names)
+          omega (arith, paired, ltb-true (length w.names) 64 small, length-append w.sessions (resting (new_session (length w.names)) ∷ []), position-le (same_word name) w.names)
       by_room false full is = omega (arith, paired, ltb-false (length w.names) 64 full, room)
 
-      by_test : (test : Bool) → nat_lt (own_place w name) (length w.names) ≡ test → own_place w name < length (if test then w.sessions else (if nat_lt (length w.names) 64 then w.sessions ++ new_session (length w.names) ∷ [] else w.sessions))
+      by_test : (test : Bool) → nat_lt (own_place w name) (length w.names) ≡ test → own_place w name < length (if test then w.sessions else (if nat_lt (length w.names) 64 then w.sessions ++ resting (new_session (length w.names)) ∷ [] else w.sessions))
       by_test true is = omega (arith, paired, ltb-true (own_place w name) (length w.names) is, room)
       by_test false is = by_room (nat_lt (length w.names) 64) refl is
 
@@ -274,7 +307,7 @@ module _ {D : Type 0} (faults clock : D → ℕ) (crash : D → ℕ → List ℕ
       subst (λ found. closed (machine next).opens (over_found found) ≡ over_found found) (sym open_is.1) refl
     where
       over_found : Option (List (List ℕ)) → ObjectsWorld
-      over_found found = record { definitions = w.definitions; open_lines = []; shared = option_map (store_disk opened tried) (option_map (λ (names : List (List ℕ)). w.store) found); names = w.names; sessions = w.sessions }
+      over_found found = record { definitions = w.definitions; open_lines = []; shared = option_map (store_disk opened tried) (option_map (λ (names : List (List ℕ)). w.store) found); names = w.names; sessions = known_by w.sessions }
 
   -- the record of these definitions
   abbrev written_definitions : List (List ℕ) → Decoded
@@ -283,12 +316,12 @@ module _ {D : Type 0} (faults clock : D → ℕ) (crash : D → ℕ → List ℕ
   closed-now : (next : ℕ → Outcome) (opened : Option Decoded) (tried : List (Attempt Decoded)) (old middle : StoreWorld (StoreState D)) → Opens faults clock crash old middle → IsMade opened tried old.store → closed (machine next).opens (on_machine opened tried old) ≡ on_machine (Some (written_definitions old.definitions)) tried middle
   closed-now next opened tried old middle opens made =
       ap (λ found. closed (machine next).opens (over_found old.store opened tried found)) opens.unopened
-      ∙ ap₂ (λ (objects : List (Object Cell)) (those : List (Attempt Decoded)). let w : ObjectsWorld = record { definitions = old.definitions; open_lines = []; shared = Some (record { state = objects; opened = Some (written_definitions old.definitions); tried = those }); names = old.names; sessions = old.sessions } in w) (sym opens.objects) (sym (made opens.unopened).1)
+      ∙ ap₂ (λ (objects : List (Object Cell)) (those : List (Attempt Decoded)). let w : ObjectsWorld = record { definitions = old.definitions; open_lines = []; shared = Some (record { state = objects; opened = Some (written_definitions old.definitions); tried = those }); names = old.names; sessions = known_by old.sessions } in w) (sym opens.objects) (sym (made opens.unopened).1)
       ∙ ap (over_found middle.store (Some (written_definitions old.definitions)) tried) (sym opens.names)
       ∙ ap (on_machine (Some (written_definitions old.definitions)) tried) (sym opens.rest)
     where
       over_found : StoreState D → Option Decoded → List (Attempt Decoded) → Option (List (List ℕ)) → ObjectsWorld
-      over_found store opened those found = record { definitions = old.definitions; open_lines = []; shared = option_map (store_disk opened those) (option_map (λ (names : List (List ℕ)). store) found); names = old.names; sessions = old.sessions }
+      over_found store opened those found = record { definitions = old.definitions; open_lines = []; shared = option_map (store_disk opened those) (option_map (λ (names : List (List ℕ)). store) found); names = old.names; sessions = known_by old.sessions }
 
   opens-sound : (old middle : StoreWorld (StoreState D)) → Opens faults clock crash old middle → IsSound old → IsSound middle
   opens-sound old middle opens sound = record {
@@ -376,8 +409,8 @@ module _ {D : Type 0} (faults clock : D → ℕ) (crash : D → ℕ → List ℕ
       opened_world tried =
           let disk : StoreState D → ObjectsDisk = store_disk (Some (written_definitions old.definitions)) tried in
           ap (on_machine (Some (written_definitions old.definitions)) tried) opens.rest
-          ∙ ap (λ found. let w : ObjectsWorld = record { definitions = old.definitions; open_lines = []; shared = option_map disk (option_map (λ (names : List (List ℕ)). middle.store) found); names = old.names; sessions = old.sessions } in w) opens.names
-          ∙ ap₂ (λ (names : List (List ℕ)) (sessions : List Session). let w : ObjectsWorld = record { definitions = old.definitions; open_lines = []; shared = Some (disk middle.store); names = names; sessions = sessions } in w) (sound.unnamed opens.unopened) (sound.no_sessions opens.unopened)
+          ∙ ap (λ found. let w : ObjectsWorld = record { definitions = old.definitions; open_lines = []; shared = option_map disk (option_map (λ (names : List (List ℕ)). middle.store) found); names = old.names; sessions = known_by old.sessions } in w) opens.names
+          ∙ ap₂ (λ (names : List (List ℕ)) (sessions : List Session). let w : ObjectsWorld = record { definitions = old.definitions; open_lines = []; shared = Some (disk middle.store); names = names; sessions = known_by sessions } in w) (sound.unnamed opens.unopened) (sound.no_sessions opens.unopened)
 
       still : new.store ≡ middle.store → Takes faults clock crash (named_means name command) old new
       still same = record {
@@ -465,7 +498,7 @@ module _ {D : Type 0} (faults clock : D → ℕ) (crash : D → ℕ → List ℕ
   defined-is opened tried w text name form can is = by_found (names_of w.store.records) is
     where
       over_found : Option (List (List ℕ)) → List (List ℕ) → ObjectsWorld
-      over_found found d = record { definitions = d; open_lines = []; shared = option_map (store_disk opened tried) (option_map (λ (names : List (List ℕ)). w.store) found); names = w.names; sessions = w.sessions }
+      over_found found d = record { definitions = d; open_lines = []; shared = option_map (store_disk opened tried) (option_map (λ (names : List (List ℕ)). w.store) found); names = w.names; sessions = known_by w.sessions }
 
       longer : List (List ℕ)
       longer = w.definitions ++ name ∷ []

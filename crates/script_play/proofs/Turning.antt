@@ -19,7 +19,7 @@ use Rattle.aw_store.specs.Stores.{StoreState, record_of, Answers, Acts}
 use Rattle.ses_step.specs.declared.answer.Answer.{Answer}
 use Rattle.ses_step.specs.declared.line.Command.{Command}
 use Rattle.ses_step.specs.declared.session.Begun.TheVariants.{Said, Ask}
-use Rattle.ses_step.specs.declared.session.Session.{Session}
+use Rattle.ses_step.specs.declared.session.Known.{Known}
 use Rattle.ses_step.specs.Sessions.{begun, finished}
 use Rattle.script_world.specs.Faults.{has_faulted}
 use Rattle.script_world.specs.Outcomes.{Outcome, Attempt, as_done, attempts_of}
@@ -154,7 +154,7 @@ module _ {D : Type 0} (faults clock : D → ℕ) (crash : D → ℕ → List ℕ
   -- ---- a command
 
   -- a command that the session answers alone
-  pub said_turned : (definitions names : List (List ℕ)) (command : Command) (answer : Answer) (before after : Session) (store : StoreState D) → (Said answer, after) ≡ begun definitions before command → Turned faults clock crash definitions names command answer before after store store
+  pub said_turned : (definitions names : List (List ℕ)) (command : Command) (answer : Answer) (before after : Known) (store : StoreState D) → (Said answer, after) ≡ begun definitions before command → Turned faults clock crash definitions names command answer before after store store
   said_turned definitions names command answer before after store said = record {
     told = [];
     more = [];
@@ -165,14 +165,14 @@ module _ {D : Type 0} (faults clock : D → ℕ) (crash : D → ℕ → List ℕ
         ∙ ap (λ those. let it : Turn ObjectsDisk = record { answer = answer; session = after; shared = store_disk opened those store } in it) (sym (append-nil tried));
   }
 
-  asked-turn : (definitions names : List (List ℕ)) (command : Command) (asked : Entry) (reply : Reply) (before between : Session) (old new : StoreState D) → (Ask asked, between) ≡ begun definitions before command → (asks : Asked faults clock crash asked reply old new) → (next : ℕ → Outcome) (opened : Option Decoded) (tried : List (Attempt Decoded)) → Tells next (length tried) asks.told →
+  asked-turn : (definitions names : List (List ℕ)) (command : Command) (asked : Entry) (reply : Reply) (before between : Known) (old new : StoreState D) → (Ask asked, between) ≡ begun definitions before command → (asks : Asked faults clock crash asked reply old new) → (next : ℕ → Outcome) (opened : Option Decoded) (tried : List (Attempt Decoded)) → Tells next (length tried) asks.told →
       turn_from (machine next) definitions names (store_disk opened tried old) (begun definitions before command) ≡ record { answer = (finished definitions names between asked reply).0; session = (finished definitions names between asked reply).1; shared = store_disk opened (tried ++ asks.more) new }
   asked-turn definitions names command asked reply before between old new begins asks next opened tried tells =
       ap (turn_from (machine next) definitions names (store_disk opened tried old)) (sym begins)
       ∙ ap (replied (machine next) definitions names between asked) (asks.step next opened tried tells)
 
   -- a command that asks the store
-  pub replied_turned : (definitions names : List (List ℕ)) (command : Command) (asked : Entry) (answer : Answer) (before between after : Session) (old new : StoreState D) → (Ask asked, between) ≡ begun definitions before command → Replied faults clock crash definitions names asked answer between after old new → Turned faults clock crash definitions names command answer before after old new
+  pub replied_turned : (definitions names : List (List ℕ)) (command : Command) (asked : Entry) (answer : Answer) (before between after : Known) (old new : StoreState D) → (Ask asked, between) ≡ begun definitions before command → Replied faults clock crash definitions names asked answer between after old new → Turned faults clock crash definitions names command answer before after old new
   replied_turned definitions names command asked answer before between after old new begins replied = record {
     told = replied.asks.told;
     more = replied.asks.more;
@@ -183,7 +183,7 @@ module _ {D : Type 0} (faults clock : D → ℕ) (crash : D → ℕ → List ℕ
         ∙ ap (λ those. let it : Turn ObjectsDisk = record { answer = those.0; session = those.1; shared = store_disk opened (tried ++ replied.asks.more) new } in it) (sym replied.finishes);
   }
 
-  pub asked_takes : (definitions names : List (List ℕ)) (command : Command) (asked : Entry) (reply : Reply) (before between : Session) (old new : StoreState D) → (Ask asked, between) ≡ begun definitions before command → Asked faults clock crash asked reply old new → TurnTakes faults clock crash definitions names command before old new
+  pub asked_takes : (definitions names : List (List ℕ)) (command : Command) (asked : Entry) (reply : Reply) (before between : Known) (old new : StoreState D) → (Ask asked, between) ≡ begun definitions before command → Asked faults clock crash asked reply old new → TurnTakes faults clock crash definitions names command before old new
   asked_takes definitions names command asked reply before between old new begins asks = record {
     told = asks.told;
     more = asks.more;
@@ -194,6 +194,6 @@ module _ {D : Type 0} (faults clock : D → ℕ) (crash : D → ℕ → List ℕ
   }
 
   -- for want of memory there is no answer by the reply
-  pub asked_wants : (definitions names : List (List ℕ)) (command : Command) (asked : Entry) (before between : Session) (old new : StoreState D) → (Ask asked, between) ≡ begun definitions before command → ReplyWants faults clock crash asked old new → TurnWants faults clock crash definitions names command before old new
+  pub asked_wants : (definitions names : List (List ℕ)) (command : Command) (asked : Entry) (before between : Known) (old new : StoreState D) → (Ask asked, between) ≡ begun definitions before command → ReplyWants faults clock crash asked old new → TurnWants faults clock crash definitions names command before old new
   asked_wants definitions names command asked before between old new begins wants =
       ⊎_elim inl (λ replied. inr (asked_takes definitions names command asked replied.0 before between old new begins replied.1)) wants

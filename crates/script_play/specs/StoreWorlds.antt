@@ -1,5 +1,5 @@
 -- The world that the program keeps: a store stands in it from the beginning, and is the shared state once it has definitions.
-use Rattle.std.specs.Prelude.{◌≡◌, ◌&&◌, ◌++◌, ℕ, min, Bool, true, false, List, [], ◌∷◌, length, nat_lt, Option, None, Some, is_none, unwrap_or, if◌then◌else◌}
+use Rattle.std.specs.Prelude.{◌≡◌, ◌&&◌, ◌++◌, ℕ, min, Bool, true, false, List, [], ◌∷◌, length, map, nat_lt, slice_index_or, Option, None, Some, is_none, unwrap_or, if◌then◌else◌}
 use Rattle.std.specs.Option.{option_map}
 use Rattle.aw_codec.specs.Records.{AreDefinable}
 use Rattle.aw_codec.specs.declared.record.Decoded.{Decoded}
@@ -9,7 +9,9 @@ use Rattle.ses_report.specs.Refusals.{no_form}
 use Rattle.ses_step.specs.declared.answer.Answer.TheVariants.{Refused}
 use Rattle.ses_step.specs.Answers.{answer_of}
 use Rattle.ses_step.specs.Words.{place_of}
-use Rattle.ses_step.specs.Sessions.{new_session}
+use Rattle.ses_step.specs.declared.session.Known.{Known}
+use Rattle.ses_step.specs.declared.session.Session.{Session}
+use Rattle.ses_step.specs.Sessions.{new_session, resting}
 use Rattle.script_world.specs.Worlds.{World, with_shared, Answered, silent, answered_so, no_session}
 use Rattle.script_world.specs.Outcomes.{Attempt}
 use Rattle.script_meaning.specs.Language.{language, ObjectsWorld}
@@ -21,9 +23,17 @@ use Rattle.script_play.specs.declared.response.Response.{Response}
 abbrev pub open_store : {D : Type 0} → StoreState D → Option (StoreState D)
 open_store {D} store = option_map (λ (names : List (List ℕ)). store) (names_of store.records)
 
+-- what the sessions know, none of which waits between two lines
+abbrev pub known_by : List Session → List Known
+known_by sessions = map (λ (session : Session). session.known) sessions
+
+-- what a session knows by its number, named or not
+abbrev pub own_known : {D : Type 0} → StoreWorld (StoreState D) → ℕ → Known
+own_known w who = (slice_index_or w.sessions who (resting (new_session who))).known
+
 -- no definition is open behind a line, since each is one line
 abbrev pub world_of : {D : Type 0} → StoreWorld (StoreState D) → World language (StoreState D)
-world_of w = record { definitions = w.definitions; open_lines = []; shared = open_store w.store; names = w.names; sessions = w.sessions }
+world_of w = record { definitions = w.definitions; open_lines = []; shared = open_store w.store; names = w.names; sessions = known_by w.sessions }
 
 -- the same over the machine on a disk, in a run that wrote this record of definitions and made these attempts of commits
 abbrev pub on_machine : {D : Type 0} → Option Decoded → List (Attempt Decoded) → StoreWorld (StoreState D) → ObjectsWorld
@@ -70,5 +80,5 @@ own_place w name = unwrap_or (place_of w.names name) (length w.names)
 abbrev pub placed : {D : Type 0} → StoreWorld (StoreState D) → List ℕ → StoreWorld (StoreState D)
 placed w name = record w {
   names = if nat_lt (own_place w name) (length w.names) then w.names else w.names ++ name ∷ [];
-  sessions = if nat_lt (own_place w name) (length w.names) then w.sessions else (if nat_lt (length w.names) 64 then w.sessions ++ new_session (length w.names) ∷ [] else w.sessions);
+  sessions = if nat_lt (own_place w name) (length w.names) then w.sessions else (if nat_lt (length w.names) 64 then w.sessions ++ resting (new_session (length w.names)) ∷ [] else w.sessions);
 }

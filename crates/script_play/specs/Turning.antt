@@ -1,5 +1,5 @@
 -- What the parts of the answer to a line do to a store and to a run, whatever the run did before.
-use Rattle.std.specs.Prelude.{◌≡◌, ◌≢◌, ◌≤◌, ◌<◌, ◌+◌, ◌++◌, ◌⊎◌, ◌↔◌, ℕ, true, List, [], ◌∷◌, length, Option, None, Some, Result, Ok, Err, slice_index_or, slice_set}
+use Rattle.std.specs.Prelude.{◌≡◌, ◌≢◌, ◌≤◌, ◌<◌, ◌+◌, ◌++◌, ◌⊎◌, ◌↔◌, ℕ, true, List, [], ◌∷◌, length, Option, None, Some, Result, Ok, Err, slice_set}
 use Rattle.std.specs.List.{count_by}
 use Rattle.aw_lists.specs.Faults.{Rose}
 use Rattle.aw_cell.specs.Names.{is_name}
@@ -15,8 +15,9 @@ use Rattle.ses_step.specs.declared.answer.Answer.{Answer}
 use Rattle.ses_step.specs.declared.line.Command.{Command}
 use Rattle.ses_step.specs.declared.line.Line.{Line}
 use Rattle.ses_step.specs.declared.line.Line.TheVariants as line
+use Rattle.ses_step.specs.declared.session.Known.{Known}
 use Rattle.ses_step.specs.declared.session.Session.{Session}
-use Rattle.ses_step.specs.Sessions.{new_session, finished}
+use Rattle.ses_step.specs.Sessions.{finished}
 use Rattle.script_world.specs.Faults.{has_faulted}
 use Rattle.script_world.specs.Outcomes.{Outcome, done, faulted, Attempt, on_disk, all_attempts, attempts_of}
 use Rattle.script_world.specs.Running.{Tells}
@@ -31,7 +32,7 @@ use Rattle.script_play.specs.declared.world.StoreWorld.{StoreWorld}
 use Rattle.script_play.specs.declared.stop.Stop.{Stop}
 use Rattle.script_play.specs.declared.stop.Stop.TheVariants.{SinkFault, DiskFault, NoMemory}
 use Rattle.script_play.specs.declared.response.Response.{Response}
-use Rattle.script_play.specs.StoreWorlds.{on_machine, IsMade, IsSound, answered_by}
+use Rattle.script_play.specs.StoreWorlds.{own_known, on_machine, IsMade, IsSound, answered_by}
 
 -- a count of faults rose by as many as these are faults, or stands at its last value
 abbrev pub FewFaults : List Outcome → ℕ → ℕ → Type 0
@@ -112,7 +113,7 @@ module _ {D : Type 0} (faults clock : D → ℕ) (crash : D → ℕ → List ℕ
     pub step : (next : ℕ → Outcome) (opened : Option Decoded) (tried : List (Attempt Decoded)) → Tells next (length tried) told → (machine next).step (store_disk opened tried old) asked ≡ (reply, store_disk opened (tried ++ more) new)
 
   -- an entry and the answer by its reply
-  pub record Replied (definitions names : List (List ℕ)) (asked : Entry) (answer : Answer) (before after : Session) (old new : StoreState D) : Type 0 where
+  pub record Replied (definitions names : List (List ℕ)) (asked : Entry) (answer : Answer) (before after : Known) (old new : StoreState D) : Type 0 where
     pub reply : Reply
     pub asks : Asked asked reply old new
     pub finishes : (answer, after) ≡ finished definitions names before asked reply
@@ -122,7 +123,7 @@ module _ {D : Type 0} (faults clock : D → ℕ) (crash : D → ℕ → List ℕ
   ReplyWants asked old new = (new ≡ old) ⊎ ((reply : Reply) × Asked asked reply old new)
 
   -- a command, answered by a turn of the machine
-  pub record Turned (definitions names : List (List ℕ)) (command : Command) (answer : Answer) (before after : Session) (old new : StoreState D) : Type 0 where
+  pub record Turned (definitions names : List (List ℕ)) (command : Command) (answer : Answer) (before after : Known) (old new : StoreState D) : Type 0 where
     pub told : List Outcome
     pub more : List (Attempt Decoded)
     pub as_many : length more ≡ length told
@@ -130,20 +131,20 @@ module _ {D : Type 0} (faults clock : D → ℕ) (crash : D → ℕ → List ℕ
     pub turns : (next : ℕ → Outcome) (opened : Option Decoded) (tried : List (Attempt Decoded)) → Tells next (length tried) told → turn (machine next) definitions names (store_disk opened tried old) before command ≡ record { answer = answer; session = after; shared = store_disk opened (tried ++ more) new }
 
   -- a command that was taken up, and made its attempts
-  pub record TurnTakes (definitions names : List (List ℕ)) (command : Command) (before : Session) (old new : StoreState D) : Type 0 where
+  pub record TurnTakes (definitions names : List (List ℕ)) (command : Command) (before : Known) (old new : StoreState D) : Type 0 where
     pub told : List Outcome
     pub more : List (Attempt Decoded)
     pub as_many : length more ≡ length told
     pub moves : Moves told more old new
     pub made_so : (next : ℕ → Outcome) (opened : Option Decoded) (tried : List (Attempt Decoded)) → Tells next (length tried) told → attempts_of (Some (turn (machine next) definitions names (store_disk opened tried old) before command).shared) ≡ all_attempts opened tried ++ more
 
-  abbrev pub TurnWants : List (List ℕ) → List (List ℕ) → Command → Session → StoreState D → StoreState D → Type 0
+  abbrev pub TurnWants : List (List ℕ) → List (List ℕ) → Command → Known → StoreState D → StoreState D → Type 0
   TurnWants definitions names command before old new = (new ≡ old) ⊎ TurnTakes definitions names command before old new
 
   -- a command of the session at a place
   pub record TurnsAt (command : Command) (answer : Answer) (who : ℕ) (old new : StoreWorld (StoreState D)) : Type 0 where
     pub after : Session
-    pub turned : Turned old.definitions old.names command answer (slice_index_or old.sessions who (new_session who)) after old.store new.store
+    pub turned : Turned old.definitions old.names command answer (own_known old who) after.known old.store new.store
     pub rest : new ≡ record old { store = new.store; sessions = slice_set old.sessions who after }
 
   -- ---- a line

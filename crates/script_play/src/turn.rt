@@ -1,4 +1,5 @@
 ghost use Rattle.std.specs.Prelude.{◌≡◌, IfOk, OnErr};
+ghost use Rattle.ses_step.specs.Sessions.{asked_in};
 ghost use Rattle.script_play.specs.Turning.{Asked, Replied, ReplyWants, Turned, TurnWants};
 
 use aw_cell::Text;
@@ -28,12 +29,13 @@ fn ask_and_finish<D: Disk>(
     session: &mut Session,
     entry: &Entry,
 ) -> Result<Answer, AllocError>
-    ensures ok { IfOk result (λ answer. Replied D.faults D.clock D.crash definitions.now names.now entry.now answer session.old session.new store.old store.new) }
+    requires { session.old.asked ≡ asked_in entry.now }
+    ensures ok { IfOk result (λ answer. Replied D.faults D.clock D.crash definitions.now names.now entry.now answer session.old.known session.new.known store.old store.new) }
     ensures err { OnErr result (ReplyWants D.faults D.clock D.crash entry.now store.old store.new) }
 {
     match ask(store, entry) {
         Ok(reply) => {
-            match session.finish(alloc, definitions.as_slice(), names, entry, &reply) {
+            match session.finish(alloc, definitions.as_slice(), names, &reply) {
                 Ok(answer) => Ok(answer),
                 Err(full) => Err(full),
             }
@@ -51,8 +53,8 @@ pub fn take_turn<D: Disk>(
     session: &mut Session,
     command: &Command,
 ) -> Result<Answer, AllocError>
-    ensures ok { IfOk result (λ answer. Turned D.faults D.clock D.crash definitions.now names.now command.now answer session.old session.new store.old store.new) }
-    ensures err { OnErr result (TurnWants D.faults D.clock D.crash definitions.now names.now command.now session.old store.old store.new) }
+    ensures ok { IfOk result (λ answer. Turned D.faults D.clock D.crash definitions.now names.now command.now answer session.old.known session.new.known store.old store.new) }
+    ensures err { OnErr result (TurnWants D.faults D.clock D.crash definitions.now names.now command.now session.old.known store.old store.new) }
 {
     match session.begin(alloc, definitions, command)? {
         Begun::Said(answer) => Ok(answer),

@@ -1,10 +1,9 @@
-ghost use Rattle.std.specs.Prelude.{◌≡◌, ◌&&◌, ◌<◌, min, IfOk, OnOk, OnErr, IsSome, None, Some, true, false, is_none, nat_lt, length, slice_index_or, Err};
+ghost use Rattle.std.specs.Prelude.{◌≡◌, ◌&&◌, ◌<◌, min, IfOk, OnOk, OnErr, IsSome, None, Some, true, false, is_none, nat_lt, length, Err};
 ghost use Rattle.aw_cell.specs.Names.{is_name};
 ghost use Rattle.aw_store.specs.Replay.{names_of};
-ghost use Rattle.ses_step.specs.Sessions.{new_session};
 ghost use Rattle.ses_step.specs.Words.{place_of};
 ghost use Rattle.script_world.specs.Worlds as spec;
-ghost use Rattle.script_play.specs.StoreWorlds.{IsSound, JoinsSo, can_join, own_place, placed};
+ghost use Rattle.script_play.specs.StoreWorlds.{IsSound, JoinsSo, can_join, own_known, own_place, placed};
 ghost use Rattle.script_play.specs.Turning.{TurnsAt, TurnWants, Answers, Wants, OpensSo, ClosesSo, FinishesWorldSo, RespondsSo, IsOpen, command_means, session_means, named_means, line_means};
 
 use crate::response::Response;
@@ -49,7 +48,7 @@ fn take_turn_at<D: Disk>(
 ) -> Result<Answer, AllocError>
     requires { who < length world.old.sessions }
     ensures ok { IfOk result (λ answer. TurnsAt D.faults D.clock D.crash command.now answer who world.old world.new) }
-    ensures err { OnErr result (TurnWants D.faults D.clock D.crash world.old.definitions world.old.names command.now (slice_index_or world.old.sessions who (new_session who)) world.old.store world.new.store) }
+    ensures err { OnErr result (TurnWants D.faults D.clock D.crash world.old.definitions world.old.names command.now (own_known world.old who) world.old.store world.new.store) }
 {
     let StoreWorld {
         definitions,

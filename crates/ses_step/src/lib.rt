@@ -11,5 +11,5 @@ mod word;
 pub use answer::{Answer, append_line};
 pub use line::{Command, Line, read_line};
 pub use names::Names;
-pub use session::{Begun, Session, View, name_at};
+pub use session::{Begun, Known, Session, View, name_at};
 pub use std::alloc::AllocError as NoMemory;

@@ -1,4 +1,4 @@
-ghost use Rattle.std.specs.Prelude.{◌≡◌, [], map, filter, slice_set, IfOk, IsErr, OnErr};
+ghost use Rattle.std.specs.Prelude.{◌≡◌, [], map, filter, slice_set, None, IfOk, IsErr, OnErr};
 ghost use Rattle.std.specs.Option.{option_map};
 ghost use Rattle.mv_core.specs.declared.entry.Reply.TheVariants.{NoMemory};
 ghost use Rattle.ses_step.specs.declared.line.Command.TheVariants.{Attach, Acquire, Assign, Update, Commit, Show};
@@ -32,11 +32,20 @@ pub struct View {
 
 /// What one session knows: its number, and how it sees each object (docs/SHARING.md).
 #[derive(Debug, PartialEq, Eq, Drop)]
-pub struct Session {
+pub struct Known {
     /// The session's number, by which the shared state knows it.
     pub who: u32,
     /// A view of each object in order of definition, once the session is attached.
     pub views: Option<List<View>>,
+}
+
+/// One session. While it waits for a reply it keeps what it asked (docs/SHARING.md).
+#[derive(Debug, PartialEq, Eq, Drop)]
+pub struct Session {
+    /// What the session knows, which no wait changes.
+    pub known: Known,
+    /// The object that it waits to own, from 0.
+    pub asked: Option<u16>,
 }
 
 /// What a command comes to.
@@ -178,12 +187,23 @@ pub fn name_at(names: &[Text], at: usize) -> Text
     }
 }
 
-impl Session {
-    /// A session of this number. It isn't attached yet.
-    pub fn new(who: u32) -> Session
+impl Begun {
+    /// The object that the session asks to own.
+    fn asked(&self) -> Option<u16>
+        ensures { result ≡ spec.asked_by self.now }
+    {
+        match self {
+            Begun::Ask(Entry::Acquire { object, .. }) => Some(*object),
+            _ => None,
+        }
+    }
+}
+
+impl Known {
+    fn new(who: u32) -> Known
         ensures { result ≡ spec.new_session who }
     {
-        Session { who, views: None }
+        Known { who, views: None }
     }
 
     fn located(&self, definitions: &Names, name: &Text) -> Result<View, Refusal>
@@ -281,14 +301,7 @@ impl Session {
         }
     }
 
-    /// Begins a command: the session answers it, or asks the shared state for an entry, whose reply
-    /// goes to `finish` (docs/LANGUAGE.md, "Statements"). `definitions` are the names of the objects
-    /// in order of definition.
-    ///
-    /// Refused are a name that isn't defined (1), then a session that isn't attached (15), or for
-    /// `AW ATTACH` one that is (16). The only error is want of memory, which leaves the session as
-    /// it was; `COMMIT` alone takes any.
-    pub fn begin(
+    fn begin(
         &mut self,
         alloc: Global,
         definitions: &Names,
@@ -309,14 +322,14 @@ impl Session {
         }
     }
 
-    fn own(&mut self, asked: &Entry)
-        ensures { self.new ≡ spec.owning self.old asked.now }
+    fn own(&mut self, asked: Option<u16>)
+        ensures { self.new ≡ spec.owning self.old asked }
     {
-        let Entry::Acquire { object, .. } = asked else {
+        let Some(object) = asked else {
             return;
         };
         if let Some(views) = &mut self.views {
-            own_view(views, *object);
+            own_view(views, object);
         }
     }
 
@@ -329,25 +342,16 @@ impl Session {
         }
     }
 
-    /// Takes the reply to the entry that the session asked for, and answers the command
-    /// (docs/SHARING.md). `definitions` are the names of the objects in order of definition, and
-    /// `names` those of the sessions by their numbers.
-    ///
-    /// Refused are an object that another session owns (17), one with a newer generation (18), one
-    /// that the session doesn't own (19), one whose numbers are used up (22), and a commit in which
-    /// the disk failed (30), as the reply says; the session stays as it was. The only error is want of
-    /// memory, in the reply or for the views of a session that attaches, which leaves the session as
-    /// it was, too.
-    pub fn finish(
+    fn finish(
         &mut self,
         alloc: Global,
         definitions: &[Text],
         names: &[Text],
-        asked: &Entry,
+        asked: Option<u16>,
         reply: &Reply,
     ) -> Result<Answer, AllocError>
         ensures finished { IfOk result (λ answer.
-            (answer, self.new) ≡ spec.finished definitions.now names.now self.old asked.now reply.now) }
+            (answer, self.new) ≡ spec.finished_by definitions.now names.now self.old asked reply.now) }
         ensures memory { reply.now ≡ NoMemory → IsErr result }
         ensures err { OnErr result (self.new ≡ self.old) }
         ensures needs { OnErr result (spec.MayWantMemory reply.now) }
@@ -387,6 +391,70 @@ impl Session {
     }
 }
 
+impl Session {
+    /// A session of this number. It isn't attached yet.
+    pub fn new(who: u32) -> Session
+        ensures { result ≡ spec.resting (spec.new_session who) }
+    {
+        Session {
+            known: Known::new(who),
+            asked: None,
+        }
+    }
+
+    /// Begins a command: the session answers it, or asks the shared state for an entry, whose reply
+    /// goes to `finish` (docs/LANGUAGE.md, "Statements"). `definitions` are the names of the objects
+    /// in order of definition.
+    ///
+    /// Refused are a name that isn't defined (1), then a session that isn't attached (15), or for
+    /// `AW ATTACH` one that is (16). The only error is want of memory, which leaves the session as
+    /// it was; `COMMIT` alone takes any.
+    pub fn begin(
+        &mut self,
+        alloc: Global,
+        definitions: &Names,
+        command: &Command,
+    ) -> Result<Begun, AllocError>
+        ensures begun { IfOk result (λ begun.
+            (begun, self.new.known) ≡ spec.begun definitions.now self.old.known command.now) }
+        ensures keeps { IfOk result (λ begun. self.new.asked ≡ spec.asked_by begun) }
+        ensures err { OnErr result (self.new ≡ self.old) }
+        ensures memory { OnErr result (command.now ≡ Commit) }
+    {
+        let begun = self.known.begin(alloc, definitions, command)?;
+        self.asked = begun.asked();
+        Ok(begun)
+    }
+
+    /// Takes the reply to the entry that the session asked for, and answers the command
+    /// (docs/SHARING.md). `definitions` are the names of the objects in order of definition, and
+    /// `names` those of the sessions by their numbers. The session waits no more.
+    ///
+    /// Refused are an object that another session owns (17), one with a newer generation (18), one
+    /// that the session doesn't own (19), one whose numbers are used up (22), and a commit in which
+    /// the disk failed (30), as the reply says; what the session knows stays as it was. The only error
+    /// is want of memory, in the reply or for the views of a session that attaches, which leaves what
+    /// the session knows as it was, too.
+    pub fn finish(
+        &mut self,
+        alloc: Global,
+        definitions: &[Text],
+        names: &[Text],
+        reply: &Reply,
+    ) -> Result<Answer, AllocError>
+        ensures finished { IfOk result (λ answer.
+            (answer, self.new.known) ≡ spec.finished_by definitions.now names.now self.old.known self.old.asked reply.now) }
+        ensures rests { self.new.asked ≡ None }
+        ensures memory { reply.now ≡ NoMemory → IsErr result }
+        ensures err { OnErr result (self.new.known ≡ self.old.known) }
+        ensures needs { OnErr result (spec.MayWantMemory reply.now) }
+    {
+        let asked = self.asked;
+        self.asked = None;
+        self.known.finish(alloc, definitions, names, asked, reply)
+    }
+}
+
 #[cfg(test)]
 mod tests {
     use super::*;
@@ -413,7 +481,7 @@ mod tests {
             Begun::Said(answer) => Ok((answer, None)),
             Begun::Ask(asked) => {
                 let definitions = definitions.as_slice();
-                let answer = session.finish(alloc, definitions, &names, &asked, reply)?;
+                let answer = session.finish(alloc, definitions, &names, reply)?;
                 Ok((answer, Some(asked)))
             }
         }
@@ -475,7 +543,7 @@ mod tests {
         let commit = turn(alloc, &mut session, &Command::Commit, &Reply::Committed)?;
         assert_eq!(rt; commit, asks(commit_of(alloc, 0, seven)?));
         let views = [view(0, 5, seven, true), view(1, 2, Cell::Int(3), false)];
-        assert_eq!(rt; session.views, Some(List::from_slice(alloc, &views)?));
+        assert_eq!(rt; session.known.views, Some(List::from_slice(alloc, &views)?));
         Ok(())
     }
 
@@ -539,8 +607,7 @@ mod tests {
                 })
             );
         }
-        let asked = Entry::Attach { who: 0 };
-        let refused = session.finish(alloc, &[], &[], &asked, &Reply::NoMemory);
+        let refused = session.finish(alloc, &[], &[], &Reply::NoMemory);
         assert!(rt; refused.is_err());
         Ok(())
     }
