@@ -26,3 +26,4 @@ pub mod Faring
 pub mod Acting
 pub mod StoreRuns
 pub mod Worked
+pub mod OneLine

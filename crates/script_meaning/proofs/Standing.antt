@@ -11,12 +11,12 @@ use Rattle.mv_core.specs.Workspace.{standing}
 use Rattle.mv_core.specs.Integers.{integers}
 use Rattle.mv_core.specs.StandingLaws.{standing-shared_step}
 use Rattle.aw_store.specs.Replay.{names_of, workspace_of}
-use Rattle.script_world.specs.Worlds.{Event, with_shared, text_of, any_refused, world_after}
+use Rattle.script_world.specs.Worlds.{Event, Answered, with_shared, answered, text_of, any_refused, world_after}
 use Rattle.script_world.specs.Outcomes as disk
 use Rattle.script_world.specs.Outcomes.{Outcome, among, attempts_of}
-use Rattle.script_world.proofs.Alike.{MachinesAlike, disks_alike, events_alike}
-use Rattle.script_meaning.specs.Alike.{standing_disk, AreAlike}
-use Rattle.script_meaning.specs.Language.{store_writing, history_machine, objects_machine, HistoryDisk, HistoryWorld, ObjectsWorld, by_history, by_objects}
+use Rattle.script_world.proofs.Alike.{MachinesAlike, answered-mapped, disks_alike, events_alike}
+use Rattle.script_meaning.specs.Alike.{standing_disk, objects_at, AreAlike}
+use Rattle.script_meaning.specs.Language.{language, store_writing, history_machine, objects_machine, HistoryDisk, ObjectsDisk, HistoryWorld, ObjectsWorld, by_history, by_objects}
 use Rattle.script_meaning.specs.Transcript.{opening, opening_objects, world_at}
 
 machines_alike : MachinesAlike objects_machine history_machine (standing integers)
@@ -50,3 +50,9 @@ are_alike names records coming events =
       world = world;
       attempts_made = ap (λ it. attempts_of it.shared) world ∙ attempts-standing (world_at names records coming events).shared;
     }
+
+-- the same of one event more
+pub answered_alike : (names : List (List ℕ)) (records : List Decoded) (coming : List Outcome) (events : List Event) (event : Event) → (answered (by_objects coming) (objects_at names records coming events) event).text ≡ (answered (by_history coming) (world_at names records coming events) event).text
+answered_alike names records coming events event =
+    ap (λ (w : ObjectsWorld). (answered (by_objects coming) w event).text) (are_alike names records coming events).world
+    ∙ ap (λ (a : Answered language ObjectsDisk). a.text) (answered-mapped (by_objects coming) (by_history coming) standing_disk (disks_alike (standing integers) store_writing (among coming) objects_machine history_machine machines_alike) (world_at names records coming events) event)

@@ -7,8 +7,10 @@ use Rattle.ses_step.specs.declared.line.Command.TheVariants as command
 use Rattle.ses_step.specs.declared.session.Known.{Known as Session}
 use Rattle.ses_step.specs.declared.session.View.{View}
 use Rattle.ses_report.specs.Refusals.{no_form, not_attached, already_attached}
+use Rattle.ses_report.specs.Reports as report
 use Rattle.ses_step.specs.Words.{place_of}
 use Rattle.script_meaning.specs.Extending.{ForAttached}
+use Rattle.script_world.specs.Laws.{lines_in}
 use Rattle.script_world.specs.Outcomes.{Outcome}
 use Rattle.script_meaning.specs.Language.{HistoryDisk, HistoryWorld, by_history}
 use Rattle.script_meaning.specs.Turns.{turn}
@@ -31,6 +33,10 @@ pub record AnswersInOrder (definitions : List (List ℕ)) (session : Session) (o
 abbrev pub CommandsAreAnswered : List Outcome → Type 0
 CommandsAreAnswered coming =
     (definitions names : List (List ℕ)) (disk : HistoryDisk) (session : Session) (own : Command) → AnswersInOrder definitions session own (turn (by_history coming) definitions names disk session own).answer
+
+-- what a session's line is answered is printed in one line
+abbrev pub IsOneLine : report.Answer → Type 0
+IsOneLine answer = lines_in answer ≡ 1
 
 -- an attached session's assignment to a defined object is answered `ok`
 abbrev pub AssignmentsAreDone : List Outcome → HistoryWorld → Type 0

@@ -5,14 +5,15 @@
 ghost use Rattle.std.specs.Prelude.{◌≤◌, ◌++◌, ℕ, List, length};
 ghost use Rattle.aw_codec.specs.declared.record.Decoded.{Decoded};
 ghost use Rattle.script_world.specs.Faults.{SeesFaults, FaultsAreSeen};
-ghost use Rattle.script_world.specs.Laws.{KeepsOthers, SameOf, GoesOn, RefusalChangesNothing};
+ghost use Rattle.script_world.specs.Laws.{KeepsOthers, SameOf, GoesOn, RefusalChangesNothing, LeavesApart, MalformedIsRefused, ClosesExactly, SessionsAreAnswered, TextFixesWorld};
 ghost use Rattle.script_world.specs.Left.{LeavesAllDone};
-ghost use Rattle.script_world.specs.Outcomes.{Outcome, Attempt, used};
+ghost use Rattle.script_world.specs.Outcomes.{Outcome, Attempt, among, used};
+ghost use Rattle.script_world.specs.Script.{LinesAreSplit};
 ghost use Rattle.script_world.specs.Worlds.{Event};
 ghost use Rattle.script_meaning.specs.Acquiring.{AcquiresAreAnswered};
 ghost use Rattle.script_meaning.specs.Alike.{AreAlike};
 ghost use Rattle.script_meaning.specs.AllDone.{AreDone, IsAsWithNone};
-ghost use Rattle.script_meaning.specs.Answering.{CommandsAreAnswered, AssignmentsAreDone};
+ghost use Rattle.script_meaning.specs.Answering.{CommandsAreAnswered, AssignmentsAreDone, IsOneLine};
 ghost use Rattle.script_meaning.specs.CommitFaults.{is_fault, fault_answer};
 ghost use Rattle.script_meaning.specs.CrashRuns.{LeavesARunOf, LeavesWhatOpens};
 ghost use Rattle.script_meaning.specs.Extending.{CommitsExtend, GrantsHaveLatest};
@@ -82,7 +83,8 @@ pub fn commands_are_answered()
 
 /// A refused line changes nothing: the definitions, the commits, the owners and what each session
 /// holds are as before. A line with a session's name may still name a new session and close the
-/// definitions. See docs/SHARING.md, 'What is proved'.
+/// definitions: then the shared state is what the definitions open. See docs/SHARING.md, 'What is
+/// proved'.
 pub fn refusals_change_nothing()
     ensures { (coming : List Outcome) (w : HistoryWorld) (event : Event) → RefusalChangesNothing SameState (by_history coming) w event }
 {}
@@ -144,6 +146,35 @@ pub fn acknowledged_records_are_left()
 pub fn crashes_leave_what_a_run_settles()
     ensures settled { (names : List (List ℕ)) (records : List Decoded) (coming : List Outcome) (events : List Event) → LeavesARunOf names records coming events }
     ensures opens { (names : List (List ℕ)) (records : List Decoded) (coming : List Outcome) (events : List Event) → CanBeOpened records → LeavesWhatOpens names records coming events }
+{}
+
+/// A line that is of no session leaves the sessions, their names and the shared state, and doesn't
+/// close the definitions; so does the end of a block. A line of no form is refused, and leaves the
+/// definitions too. The definitions are closed by the first line of a session, or by the end of a
+/// script that has any, and by nothing else. See docs/LANGUAGE.md, 'Scripts'.
+pub fn lines_of_no_session_stay_apart()
+    ensures apart { (coming : List Outcome) (w : HistoryWorld) (event : Event) → LeavesApart (by_history coming) w event }
+    ensures malformed { (coming : List Outcome) (w : HistoryWorld) (text : List ℕ) → MalformedIsRefused (by_history coming) w text }
+    ensures closing { (coming : List Outcome) (w : HistoryWorld) (event : Event) → ClosesExactly (by_history coming) w event }
+{}
+
+/// Each line of a session is answered once, by one line under the session's name as it was first
+/// written, or under `*` for a session past the 64th. See docs/LANGUAGE.md, 'Scripts'.
+pub fn session_lines_are_answered_once()
+    ensures { (coming : List Outcome) (w : HistoryWorld) (event : Event) → SessionsAreAnswered IsOneLine (by_history coming) w event }
+{}
+
+/// The text of a run tells how its commits ended: with two rows of outcomes that give the same text,
+/// the same lines leave the same world, and so make the same attempts, which end the same way. See
+/// docs/SHARING.md, 'Commits on a disk'.
+pub fn text_fixes_outcomes()
+    ensures { (names : List (List ℕ)) (records : List Decoded) (one other : List Outcome) (events : List Event) → TextFixesWorld store_writing history_machine (among one) (among other) (opening names records) events }
+{}
+
+/// The lines of a script, each with the CR that was taken from it and with its LF, give back the
+/// script, and no LF stands within a line. See docs/LANGUAGE.md, 'Scripts'.
+pub fn lines_give_back_the_script()
+    ensures { (script : List ℕ) → LinesAreSplit script }
 {}
 
 /// A line with a session's command is answered by a turn of this session: what the laws on commands

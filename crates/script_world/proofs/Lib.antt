@@ -15,3 +15,7 @@ pub mod Faults
 pub mod Walk
 pub mod Turns
 pub mod Acknowledged
+pub mod Apart
+pub mod Refused
+pub mod Fixing
+pub mod Splitting

@@ -1,9 +1,9 @@
 -- A refused event changes nothing.
-use Rattle.std.specs.Prelude.{◌≡◌, ℕ, zero, suc, true, List, [], ◌∷◌, length, Option, Some, is_some, unwrap_or, slice_get, slice_set, slice_index_or, refl}
+use Rattle.std.specs.Prelude.{◌≡◌, ℕ, zero, suc, true, List, [], ◌∷◌, length, Option, None, Some, is_some, unwrap_or, slice_get, slice_set, slice_index_or, refl}
 use Rattle.std.specs.Option.{ForSome}
 use Rattle.std.proofs.Common.{◌∙◌, ap, sym, subst, ⊎_elim}
 use Rattle.std.proofs.lemmas.Bool.{true≢false}
-use Rattle.std.proofs.lemmas.Option.{same_Some}
+use Rattle.std.proofs.lemmas.Option.{none-some, same_Some}
 use Rattle.ses_report.specs.Reports.{Answer}
 use Rattle.script_world.specs.Meaning.{Begun, said, ask, Meaning}
 use Rattle.script_world.specs.Worlds.{World, Machine, Event, Answered, with_own, own_session, begun_so, commanded, shared_of, settled, is_refused}
@@ -32,16 +32,22 @@ module _ {m : Meaning} {S : Type 0} (Same : S → S → Type 0) where
 
     module _ (mild : Mild) where
       abbrev Quiet : World m S → Answered m S → Type 0
-      Quiet w a = is_refused a.answer ≡ true → ChangesNothing Same w a.world
+      Quiet w a = is_refused a.answer ≡ true → ChangesNothing Same machine.opens w a.world
 
       -- as before, but for new sessions and closed definitions
       record Passed (before after : World m S) : Type 0 where
         definitions : after.definitions ≡ before.definitions
         shared : ForSome before.shared (λ old. after.shared ≡ Some old)
+        unopened : before.shared ≡ None → ForSome after.shared (λ new. new ≡ machine.opens before.definitions)
         sessions : (who : ℕ) → ForSome (slice_get before.sessions who) (λ session. slice_get after.sessions who ≡ Some session)
 
-      passed : (before after : World m S) → Passed before after → ChangesNothing Same before after
-      passed before after it = record { definitions = it.definitions; shared = λ old is. (old, it.shared old is, mild.same old); sessions = it.sessions }
+      passed : (before after : World m S) → Passed before after → ChangesNothing Same machine.opens before after
+      passed before after it = record {
+        definitions = it.definitions;
+        shared = λ old is. (old, it.shared old is, mild.same old);
+        unopened = λ none new is. subst (Same (machine.opens before.definitions)) (sym (it.unopened none new is)) (mild.same (machine.opens before.definitions));
+        sessions = it.sessions;
+      }
 
       own-sessions : (before w : World m S) (who : ℕ) (s : m.Session) → Passed before w → s ≡ own_session w who → (other : ℕ) → ForSome (slice_get before.sessions other) (λ session. slice_get (slice_set w.sessions who s) other ≡ Some session)
       own-sessions before w who s it held other session is =
@@ -55,12 +61,13 @@ module _ {m : Meaning} {S : Type 0} (Same : S → S → Type 0) where
 
           by_begun : (b : Begun m.Entry m.Session m.Waiting) → m.begin w.definitions s statement ≡ b → Quiet before (settled machine (begun_so w shared who b))
           by_begun (said answer new) is refused =
-              passed before (with_own w who new) (record { definitions = it.definitions; shared = it.shared; sessions = own-sessions before w who new it (mild.begins w.definitions s statement answer new is refused) })
+              passed before (with_own w who new) (record { definitions = it.definitions; shared = it.shared; unopened = it.unopened; sessions = own-sessions before w who new it (mild.begins w.definitions s statement answer new is refused) })
           by_begun (ask entry waiting) is refused =
               let kept = mild.steps w.definitions w.names shared s statement entry waiting is refused in
               let r = machine.step shared entry in
               record {
                 definitions = it.definitions;
+                unopened = λ none new same. subst (Same (machine.opens before.definitions)) (same_Some r.1 new same) (subst (λ (from : S). Same from r.1) (it.unopened none shared is_open) kept.1);
                 shared = λ old was. (r.1, refl, subst (λ (from : S). Same from r.1) (same_Some shared old (sym is_open ∙ it.shared old was)) kept.1);
                 sessions = own-sessions before w who (m.finish w.definitions w.names waiting r.0).1 it kept.0;
               }
@@ -77,6 +84,8 @@ module _ {m : Meaning} {S : Type 0} (Same : S → S → Type 0) where
           at_rest after rests = record {
             definitions = rests.definitions;
             shared = λ old is. ⊎_elim (λ same. same ∙ is) (λ closed. closed ∙ ap (λ (those : Option S). Some (unwrap_or those (machine.opens w.definitions))) is) rests.shared;
+            unopened = λ none new is.
+                ⊎_elim (λ same. absurd (none-some new (sym none ∙ sym same ∙ is))) (λ closed. same_Some new (machine.opens w.definitions) (sym is ∙ closed ∙ ap (λ (those : Option S). Some (unwrap_or those (machine.opens w.definitions))) none)) rests.shared;
             sessions = λ who session is.
                 ⊎_elim (λ same. ap (λ (those : List m.Session). slice_get those who) same ∙ is) (λ longer. ap (λ (those : List m.Session). slice_get those who) longer ∙ slice_get-append w.sessions (m.new_session (length w.names) ∷ []) who session is) rests.sessions;
           }
