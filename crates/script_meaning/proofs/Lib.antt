@@ -27,3 +27,4 @@ pub mod Acting
 pub mod StoreRuns
 pub mod Worked
 pub mod OneLine
+pub mod Dumping

@@ -1,8 +1,8 @@
 -- The dump of a list of records: each object's latest generation.
-use Rattle.std.specs.Prelude.{ℕ, List, [], ◌∷◌, ◌++◌, codes, unwrap_or}
+use Rattle.std.specs.Prelude.{◌≡◌, ◌<◌, ◌+◌, ℕ, ℤ, pos, negsuc, List, [], ◌∷◌, ◌++◌, codes, length, map, unwrap_or}
 use Rattle.std.specs.Fmt.{decimal}
 use Rattle.aw_cell.specs.declared.cell.Cell.{Cell}
-use Rattle.aw_cell.specs.declared.cell.Cell.TheVariants.{Na}
+use Rattle.aw_cell.specs.declared.cell.Cell.TheVariants.{Na, Int}
 use Rattle.aw_codec.specs.declared.record.Decoded.{Decoded}
 use Rattle.mv_core.specs.declared.object.Object.{Object}
 use Rattle.mv_core.specs.Integers.{integers}
@@ -27,3 +27,29 @@ dumped (name ∷ names) (it ∷ objects) = dumped_object name it.number it.body 
 
 abbrev pub dump_text : List Decoded → List ℕ
 dump_text records = dumped (unwrap_or (names_of records) []) (standing integers (workspace_of records []))
+
+-- ---- what a dump tells
+
+-- an INTEGER of 64 bits
+abbrev pub IsSmall : ℤ → Type 0
+IsSmall (pos n) = n < 9223372036854775808
+IsSmall (negsuc n) = n + 1 < 9223372036854775808
+
+-- an INTEGER cell
+abbrev pub IsPlain : Cell → Type 0
+IsPlain Na = Unit {0}
+IsPlain (Int z) = IsSmall z
+IsPlain _ = ⊥
+
+abbrev pub AreDumpable : List (Object Cell) → Type 0
+AreDumpable [] = Unit {0}
+AreDumpable (it ∷ objects) = (it.number < 18446744073709551616) × IsPlain it.body × AreDumpable objects
+
+-- each object's number and cell
+abbrev pub seen_of : List (Object Cell) → List (ℕ × Cell)
+seen_of objects = map (λ (it : Object Cell). let seen : ℕ × Cell = (it.number, it.body) in seen) objects
+
+-- the dump of the objects of these names tells the number and the cell of each, NA ones too
+abbrev pub DumpTells : List (List ℕ) → List (Object Cell) → List (Object Cell) → Type 0
+DumpTells names one other =
+    length one ≡ length names → length other ≡ length names → AreDumpable one → AreDumpable other → dumped names one ≡ dumped names other → seen_of one ≡ seen_of other

@@ -3,7 +3,9 @@
 //! of the disk.
 
 ghost use Rattle.std.specs.Prelude.{◌≤◌, ◌++◌, ℕ, List, length};
+ghost use Rattle.aw_cell.specs.declared.cell.Cell.{Cell};
 ghost use Rattle.aw_codec.specs.declared.record.Decoded.{Decoded};
+ghost use Rattle.mv_core.specs.declared.object.Object.{Object};
 ghost use Rattle.script_world.specs.Faults.{SeesFaults, FaultsAreSeen};
 ghost use Rattle.script_world.specs.Laws.{KeepsOthers, SameOf, GoesOn, RefusalChangesNothing, LeavesApart, MalformedIsRefused, ClosesExactly, SessionsAreAnswered, TextFixesWorld};
 ghost use Rattle.script_world.specs.Left.{LeavesAllDone};
@@ -16,6 +18,7 @@ ghost use Rattle.script_meaning.specs.AllDone.{AreDone, IsAsWithNone};
 ghost use Rattle.script_meaning.specs.Answering.{CommandsAreAnswered, AssignmentsAreDone, IsOneLine};
 ghost use Rattle.script_meaning.specs.CommitFaults.{is_fault, fault_answer};
 ghost use Rattle.script_meaning.specs.CrashRuns.{LeavesARunOf, LeavesWhatOpens};
+ghost use Rattle.script_meaning.specs.Dump.{DumpTells};
 ghost use Rattle.script_meaning.specs.Extending.{CommitsExtend, GrantsHaveLatest};
 ghost use Rattle.script_meaning.specs.Fit.{WorldFits};
 ghost use Rattle.script_meaning.specs.Language.{HistoryWorld, store_writing, history_machine, by_history};
@@ -169,6 +172,13 @@ pub fn session_lines_are_answered_once()
 /// docs/SHARING.md, 'Commits on a disk'.
 pub fn text_fixes_outcomes()
     ensures { (names : List (List ℕ)) (records : List Decoded) (one other : List Outcome) (events : List Event) → TextFixesWorld store_writing history_machine (among one) (among other) (opening names records) events }
+{}
+
+/// What `dump` prints tells the number of each object's latest generation and its cell, also where
+/// that is NA: two dumps of the same names that are the same text are of the same numbers and cells.
+/// See docs/FORMATS.md, 'A dump'.
+pub fn dumps_tell_numbers_and_cells()
+    ensures { (names : List (List ℕ)) (one other : List (Object Cell)) → DumpTells names one other }
 {}
 
 /// The lines of a script, each with the CR that was taken from it and with its LF, give back the
