@@ -23,13 +23,14 @@ module _ {D : Type 0} (content : D → Option (List ℕ)) (faults clock : D → 
     pub stays : Undisturbed content faults clock crash old new
 
   -- What the sink had and has now, where it tells, by the status. A workspace keeps its content and its images, whatever
-  -- the status. At each moment of the call a crash leaves what it might have left before, but for the first 9 bytes and
+  -- the status, which is 9 unless a device failed. At each moment of the call a crash leaves what it might have left before, but for the first 9 bytes and
   -- what lies past the end.
   pub record Makes (before now : Option (List ℕ)) (status : ℕ) : Type 0 where
     pub statuses : (status ≡ 0) ⊎ (status ≡ 4) ⊎ (status ≡ 5) ⊎ (status ≡ 9)
     pub kept : IfSome (content old) (λ bytes. IsFormatted bytes → Undisturbed content faults clock crash old new)
     pub made : status ≡ 0 → IsMade × Grows before now done
     pub left : status ≡ 9 → IsLeft × Grows before now already_a_workspace
+    pub formatted : IfSome (content old) (λ bytes. IsFormatted bytes → (status ≡ 9) ⊎ (status ≡ 4) ⊎ (status ≡ 5))
     pub cut : status ≡ 4 → (IsMade × GrowsByFront before now done) ⊎ (IsLeft × GrowsByFront before now already_a_workspace)
     pub silent : status ≡ 5 → now ≡ before
     pub moments : Passed (clock old) (clock new) (crash old) (crash new) (TornFrom 0 9 (crash old (clock old)))

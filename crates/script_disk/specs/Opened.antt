@@ -45,3 +45,15 @@ Told (load.Damaged offset) why before now =
     ((why ≡ Damaged offset) × Grows before now (damaged offset)) ⊎ ((why ≡ SinkFault) × GrowsByFront before now (damaged offset))
 Told load.DiskFault why before now = (why ≡ DiskFault) × (now ≡ before)
 Told load.NoMemory why before now = (why ≡ NoMemory) × (now ≡ before)
+
+-- a device failed, or memory ran out
+abbrev pub IsHindered : ℕ → Type 0
+IsHindered status = (status ≡ 4) ⊎ (status ≡ 5) ⊎ (status ≡ 6)
+
+-- What the status says of the content of a disk that was to be opened: 7 exactly where it's no workspace, and 8 exactly where
+-- it's damaged, unless the call was hindered.
+pub record ExplainsContent (status : ℕ) (image : List ℕ) : Type 0 where
+  pub seven : status ≡ 7 → IsUnformatted image
+  pub eight : status ≡ 8 → (offset : ℕ) × IsDamaged image offset
+  pub unformatted : IsUnformatted image → (status ≡ 7) ⊎ IsHindered status
+  pub bad : (offset : ℕ) → IsDamaged image offset → (status ≡ 8) ⊎ IsHindered status

@@ -1,4 +1,4 @@
-ghost use Rattle.std.specs.Prelude.{◌≡◌, ◌≤◌, [], length, unwrap_or, IsSome, OnOk, OnErr};
+ghost use Rattle.std.specs.Prelude.{◌≡◌, ◌≤◌, [], length, unwrap_or, IfSome, IsSome, OnOk, OnErr};
 ghost use Rattle.aw_io.specs.Known.{Grows, GrowsByFront};
 ghost use Rattle.aw_lists.specs.Faults.{Rose};
 ghost use Rattle.aw_journal.specs.Passed.{Passed};
@@ -6,6 +6,7 @@ ghost use Rattle.aw_store.specs.Replay.{names_of};
 ghost use Rattle.script_meaning.specs.Dump.{dumped};
 ghost use Rattle.script_disk.specs.Dumped.{EndsDump, Dumps, CompletesDump};
 ghost use Rattle.script_disk.specs.Formatted.{AreFormatted};
+ghost use Rattle.script_disk.specs.Opened.{ExplainsContent};
 
 use crate::line::object_lines;
 use crate::opening::open;
@@ -102,6 +103,7 @@ pub fn dump<K: Sink, D: Disk>(alloc: Global, disk: &mut D, out: &mut K) -> u8
     ensures completes { AreFormatted (D.crash disk.old (D.clock disk.old)) → IsSome (D.content disk.old)
         → ¬ (Rose (D.faults disk.old) (D.faults disk.new)) → ¬ (Rose (K.faults out.old) (K.faults out.new))
         → CompletesDump result }
+    ensures explains { IfSome (D.content disk.old) (ExplainsContent result) }
     ensures disk_later { D.faults disk.old ≤ D.faults disk.new }
     ensures sink_later { K.faults out.old ≤ K.faults out.new }
     ensures disk_cause { result ≡ 5 → Rose (D.faults disk.old) (D.faults disk.new) }
