@@ -1,11 +1,11 @@
 -- How a run ends, told over the commits and the owners.
-use Rattle.std.specs.Prelude.{◌≡◌, ◌≤◌, ◌++◌, ℕ, Bool, true, false, List, [], ◌∷◌, length, take, Option, None, Some, IfSome, unwrap_or, refl}
+use Rattle.std.specs.Prelude.{◌≡◌, ◌≤◌, ◌++◌, ℕ, Bool, true, false, List, [], ◌∷◌, length, take, Option, None, Some, IfSome, is_some, unwrap_or, refl}
 use Rattle.std.specs.Option.{option_map}
-use Rattle.std.proofs.Common.{◌∙◌, ap, sym, subst, inl, inr, ⊎_elim, arith, length-append}
+use Rattle.std.proofs.Common.{◌∙◌, ap, sym, subst, subst₂, inl, inr, ⊎_elim, arith, length-append}
 use Rattle.std.proofs.lemmas.List.{take_at}
 use Rattle.std.proofs.lemmas.Option.{none-some}
 use Rattle.std.specs.Io.KnownBytes.{IsAtEnd}
-use Rattle.aw_io.specs.Known.{Gives, Grows, GrowsByFront, Gives-nothing, Grows-nothing}
+use Rattle.aw_io.specs.Known.{Gives, Grows, Gives-nothing, Grows-nothing}
 use Rattle.aw_codec.specs.Records.{AreDefinable}
 use Rattle.aw_codec.specs.declared.record.Decoded.{Decoded}
 use Rattle.mv_core.specs.Integers.{integers}
@@ -15,24 +15,26 @@ use Rattle.aw_store.specs.Images.{HoldsRecords, LeftRecords}
 use Rattle.aw_store.specs.Replay.{names_of, workspace_of}
 use Rattle.aw_store.specs.Stores.{StoreState}
 use Rattle.script_world.specs.Outcomes.{Outcome, faulted, Attempt, all_attempts}
-use Rattle.script_world.specs.Worlds.{Event, with_shared, text_of, ended_events, script_events}
-use Rattle.script_meaning.specs.Alike.{standing_disk}
+use Rattle.script_world.specs.Laws.{Closes}
+use Rattle.script_world.specs.Worlds.{Event, line, block_ends, script_ends, with_shared, session_in, text_of, ended_events, script_events}
+use Rattle.script_meaning.specs.Alike.{standing_disk, objects_at}
 use Rattle.script_meaning.specs.Faring.{Fares, HoldsLeft}
 use Rattle.script_meaning.specs.Matching.{CanBeOpened}
 use Rattle.script_meaning.specs.Transcript.{opening, world_at, attempts}
-use Rattle.script_meaning.specs.Language.{HistoryDisk, ObjectsWorld, by_history}
+use Rattle.script_meaning.specs.Language.{form_of, is_any, HistoryDisk, HistoryWorld, ObjectsWorld, by_history, by_objects}
 use Rattle.script_meaning.specs.SameRecords.{SameRecords}
 use Rattle.script_meaning.specs.StoreRuns.{store_disk, IsRun}
 use Rattle.script_meaning.proofs.Faring.{fares_opened, fares_final}
-use Rattle.script_meaning.proofs.Standing.{are_alike}
+use Rattle.script_meaning.proofs.Standing.{are_alike, answered_alike}
 use Rattle.script_meaning.proofs.StoreRuns.{is_run, run_opened}
 use Rattle.script_play.specs.declared.ending.Ending.{Ending}
 use Rattle.script_play.specs.declared.ending.Ending.TheVariants.{Accepted, Refusing, SourceFault, SinkFault, DiskFault, NoMemory, TooLong}
 use Rattle.script_play.specs.declared.world.StoreWorld.{StoreWorld}
+use Rattle.script_play.specs.Cuts.{with_last, last_text, GrowsBehind}
 use Rattle.script_play.specs.Statuses.{most_bytes, status_of}
 use Rattle.script_play.specs.StoreWorlds.{world_of, IsSound}
 use Rattle.script_play.specs.Turning.{FewFaults, defining}
-use Rattle.script_play.specs.Playing.{Play, Stands, HasDone, WasCut, HasFailed, HasPlayed, HasFinished}
+use Rattle.script_play.specs.Playing.{Play, Stands, HasDone, ClosesWith, WasCut, HasFailed, HasPlayed, HasFinished}
 use Rattle.script_play.specs.Reading.{Streams, streams, BrokeOff, RanOver, EndedWhole, EndsRun, EndsFrom}
 use Rattle.script_play.specs.Ends.{IsFront, AreEvents, IsWhole, IsCut, IsUndefined, EndsSo, contents, WasOpened, Plays}
 use Rattle.script_play.specs.Opened.{opened_world, opened_play}
@@ -54,6 +56,12 @@ few-earlier outcomes before middle now later few = ⊎_elim (λ less. let it : F
 unopened-as : (found : Option HistoryDisk) → option_map standing_disk found ≡ None → found ≡ None
 unopened-as None none = refl
 unopened-as (Some disk) none = absurd (none-some (standing_disk disk) (sym none))
+
+-- an event that closes these definitions
+closes_as : (w : HistoryWorld) (definitions : List (List ℕ)) (next : Event) → w.definitions ≡ definitions → ClosesWith definitions next → Closes w next
+closes_as w definitions (line text) same it = inl (ap (λ form. is_some (session_in w (form_of form))) it.is)
+closes_as w definitions block_ends same it = absurd it
+closes_as w definitions script_ends same it = inr (refl, ap is_any same ∙ it)
 
 module _ {D : Type 0} (faults clock : D → ℕ) (crash : D → ℕ → List ℕ → Type 0) (records : List Decoded) (at : D) where
   -- how a run ended, over the commits and the owners
@@ -102,6 +110,10 @@ module _ {D : Type 0} (faults clock : D → ℕ) (crash : D → ℕ → List ℕ
         stands = subst (Stands faults clock crash records at it.lines.coming (all_attempts it.lines.opened it.lines.tried)) (sym it.store_is) it.lines.stands;
       }
 
+  last_text-alike : (coming : List Outcome) (events : List Event) (last : Option Event) → last_text (by_objects coming) (objects_at [] records coming events) last ≡ last_text (by_history coming) (world_at [] records coming events) last
+  last_text-alike coming events None = refl
+  last_text-alike coming events (Some event) = answered_alike [] records coming events event
+
   -- a cut, with the outcomes and the attempts of its lines
   record Cut (s : Streams) (taken : List ℕ) (store : StoreState D) : Type 0 where
     outcomes : List Outcome
@@ -111,18 +123,20 @@ module _ {D : Type 0} (faults clock : D → ℕ) (crash : D → ℕ → List ℕ
 
   cut-as : (s : Streams) (taken : List ℕ) (all : List Event) (store : StoreState D) → length taken ≤ most_bytes → ((events : List Event) → IsFront events all → AreEvents s taken events) → WasCut faults clock crash records at all store s.written_before s.written_now → Cut s taken store
   cut-as s taken all store size are it =
-      let alike = are_alike [] records it.taken.coming it.events in
+      let alike = are_alike [] records it.coming it.events in
+      let all_alike = are_alike [] records it.coming (with_last it.events it.last) in
       record {
-        outcomes = it.taken.coming;
-        made = it.taken.made;
+        outcomes = it.coming;
+        made = it.made;
         cut = record {
           size = size;
           events = it.events;
-          are = are it.events (record { rest = it.rest; is = it.front });
-          wrote = subst (GrowsByFront s.written_before s.written_now) (sym (sym alike.text ∙ it.taken.due)) it.written;
-          attempted = sym alike.attempts_made ∙ it.taken.attempted;
+          last = it.last;
+          are = are (with_last it.events it.last) (record { rest = it.rest; is = it.front });
+          wrote = subst₂ (GrowsBehind s.written_before s.written_now) alike.text (last_text-alike it.coming it.events it.last) it.written;
+          attempted = sym all_alike.attempts_made ∙ it.attempted;
         };
-        stands = it.taken.stands;
+        stands = it.stands;
       }
 
   -- a failure to write the definitions
@@ -141,10 +155,12 @@ module _ {D : Type 0} (faults clock : D → ℕ) (crash : D → ℕ → List ℕ
         undefined = record {
           size = size;
           events = it.events;
-          are = are it.events (record { rest = it.rest; is = it.front });
+          next = it.next;
+          are = are (it.events ++ it.next ∷ []) (record { rest = it.rest; is = it.front });
           wrote = subst (Grows s.written_before s.written_now) (sym run.text_is) it.written;
           no_commits = refl;
           unopened = unopened-as (world_at [] records [] it.events).shared (ap (λ (w : ObjectsWorld). w.shared) same ∙ ap (option_map (store_disk None [])) (ap (option_map (λ (names : List (List ℕ)). it.w.store)) it.unopened));
+          closes = closes_as (world_at [] records [] it.events) it.w.definitions it.next (ap (λ (w : ObjectsWorld). w.definitions) same) it.closes;
           attempted = ap (λ (those : List (List ℕ)). defining those faulted ∷ []) (sym (ap (λ (w : ObjectsWorld). w.definitions) same));
         };
         stands = it.stands;
@@ -262,6 +278,10 @@ module _ {D : Type 0} (faults clock : D → ℕ) (crash : D → ℕ → List ℕ
     as_many = it.stands.fares.as_many;
     from = passed.later;
     rise = it.stands.fares.rise;
+    kept = λ moment image below.
+        let since = it.stands.later.kept moment image (omega (arith, below, passed.later)) in
+        let load = passed.kept moment image below in
+        (λ left. load.0 (since.0 left), λ left. since.1 (load.1 left));
     loading = λ moment image from below left. passed.only moment image from (omega (arith, below)) ((it.stands.later.kept moment image below).0 left);
     crash = it.stands.fares.each;
     leaves = if-some (content last.disk) (λ image. HoldsLeft SameRecords first.records it.made (length it.made) image) (λ image told.
@@ -305,4 +325,4 @@ module _ {D : Type 0} (faults clock : D → ℕ) (crash : D → ℕ → List ℕ
   -- ---- a disk that isn't opened
 
   pub not_opened : (content : D → Option (List ℕ)) (disk after : D) (why : Unopened) (s : Streams) (status : ℕ) → status ≡ unopened_status why → IsUnopened why (content disk) s.written_before s.written_now → s.left_now ≡ s.left_before → content after ≡ content disk → Passed (clock disk) (clock after) (crash disk) (crash after) (crash disk (clock disk)) → Plays s (contents (content disk) (content after) (faults disk) (faults after)) (clock disk) (clock after) (crash disk) (crash after) status
-  not_opened content disk after why s status is tells left same passed = inl (record { why = why; is = is; tells = tells; left = left; content = same; undisturbed = passed.only })
+  not_opened content disk after why s status is tells left same passed = inl (record { why = why; is = is; tells = tells; left = left; content = same; kept = passed.kept; undisturbed = passed.only })

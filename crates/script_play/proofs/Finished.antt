@@ -1,6 +1,6 @@
 -- What the end of the script does to a play.
 use Rattle.std.specs.Prelude.{map}
-use Rattle.std.proofs.Common.{◌≡◌, ◌≢◌, ◌||◌, ℕ, Bool, true, false, eqb, List, [], ◌∷◌, ◌++◌, length, Option, None, Some, Ok, Err, refl, sym, ap, ◌∙◌, subst, ⊎_elim, append_assoc, append-nil}
+use Rattle.std.proofs.Common.{◌≡◌, ◌||◌, ℕ, Bool, true, false, eqb, List, [], ◌∷◌, ◌++◌, length, Option, None, Ok, Err, refl, sym, ap, ◌∙◌, subst, ⊎_elim, append_assoc, append-nil}
 use Rattle.std.proofs.lemmas.Bool.{cond-true, cond-false}
 use Rattle.aw_io.specs.Known.{Grows, Grows-append}
 use Rattle.aw_codec.specs.declared.record.Decoded.{Decoded}
@@ -15,7 +15,7 @@ use Rattle.script_play.specs.declared.stop.Stop.TheVariants.{SinkFault, DiskFaul
 use Rattle.script_play.specs.Turning.{event_means, Responds, FinishesWorldSo}
 use Rattle.script_play.specs.Playing.{Play, said_of, refuses_of, Responded, RespondedSo, HasDone, HasStopped, HasFinished, EndsLines, Finishes, StopsAtEnd}
 use Rattle.script_play.proofs.Done.{done_event, done_line, failed_so, cut_before, stopped_line, stopped_more}
-use Rattle.script_play.proofs.Lines.{block_responds, ended_still, ended_opens}
+use Rattle.script_play.proofs.Lines.{any_defined, block_responds, ended_still, ended_opens}
 
 -- the events of the lines of a script
 abbrev lines_of : List ℕ → List Event
@@ -88,7 +88,8 @@ module _ {D : Type 0} (faults clock : D → ℕ) (crash : D → ℕ → List ℕ
 
     stopped-so : (stop : Stop) (new : StoreWorld (StoreState D)) → FinishesWorldSo faults clock crash (Err stop) middle new → HasStopped faults clock crash records at stop (script_events taken) new.store before now
     stopped-so SinkFault new none = absurd none
-    stopped-so DiskFault new fails = failed_so faults clock crash records at (script_events taken) (lines_of taken) last_events text refused middle new before now refl d fails grows
+    stopped-so DiskFault new fails =
+        failed_so faults clock crash records at (script_events taken) (lines_of taken ++ block_ends ∷ []) [] script_ends text refused middle new before now (sym all_events ∙ sym (append-nil ((lines_of taken ++ block_ends ∷ []) ++ script_ends ∷ []))) (any_defined middle.definitions fails.1) block_done fails.0 grows
     stopped-so NoMemory new same = cut_before faults clock crash records at (script_events taken) (lines_of taken) last_events text refused middle new.store before now refl d (ap (λ (w : StoreWorld (StoreState D)). w.store) same) grows
 
   pub Finishes-so : (refused : Bool) (old : Play D) (middle new : StoreWorld (StoreState D)) (first now : Option (List ℕ)) → EndsLines faults clock crash refused old first middle now → FinishesWorldSo faults clock crash (Ok tt) middle new → Finishes faults clock crash refused old first new.store now

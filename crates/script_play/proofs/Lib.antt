@@ -7,3 +7,4 @@ pub mod Finished
 pub mod Taken
 pub mod Endings
 pub mod Completing
+pub mod Explaining

@@ -26,8 +26,8 @@ use Rattle.ses_step.specs.declared.session.Session.{Session}
 use Rattle.ses_step.specs.Words.{place_of}
 use Rattle.ses_step.specs.Lines.{line_form}
 use Rattle.ses_step.specs.Sessions.{new_session, resting, name_at}
-use Rattle.script_world.specs.Outcomes.{Outcome, done, Attempt, OnDisk, as_done, all_attempts, attempts_of}
-use Rattle.script_world.specs.Worlds.{Answered, answered_so, refused_so, no_session, silent, defined, defined_so, answers, session_place, with_session, closed, shared_of, commanded, crowded_out, session_planned, settled, block_ends, script_ends}
+use Rattle.script_world.specs.Outcomes.{Outcome, done, Attempt, as_done, all_attempts, attempts_of}
+use Rattle.script_world.specs.Worlds.{Answered, answered_so, refused_so, no_session, silent, defined, defined_so, answers, with_session, closed, shared_of, commanded, crowded_out, settled, block_ends, script_ends}
 use Rattle.script_world.proofs.Moves.{position-le}
 use Rattle.script_meaning.specs.Language.{language, can_define, defined_by, is_any, objects_machine, ObjectsDisk, ObjectsWorld}
 use Rattle.script_meaning.specs.StoreRuns.{store_disk}
@@ -43,7 +43,7 @@ use Rattle.script_play.specs.declared.response.Response.{Response}
 use Rattle.script_play.specs.declared.stop.Stop.{Stop}
 use Rattle.script_play.specs.declared.stop.Stop.TheVariants.{SinkFault, DiskFault, NoMemory}
 use Rattle.script_play.specs.StoreWorlds.{known_by, own_known, on_machine, IsMade, IsSound, answered_by, refused_response, can_join, JoinsSo, own_place, placed}
-use Rattle.script_play.specs.Turning.{machine, Means, joined, defining, IsOpen, DefinesName, command_means, session_means, named_means, form_means, event_means, Moves, Turned, TurnTakes, TurnWants, TurnsAt, Answers, Responds, Takes, Wants, Opens, ClosesSo, StopsSo, RespondsSo}
+use Rattle.script_play.specs.Turning.{machine, Means, defining, IsOpen, DefinesName, command_means, session_means, named_means, form_means, event_means, Moves, Turned, TurnTakes, TurnWants, TurnsAt, Answers, Responds, Takes, Wants, Opens, ClosesSo, StopsSo, RespondsSo}
 use Rattle.script_play.proofs.Turning.{moves-nothing, moves-then}
 
 -- ---- the first command of a session that isn't attached makes no attempt
@@ -58,6 +58,10 @@ first-turn : (next : ℕ → Outcome) (definitions names : List (List ℕ)) (dis
 first-turn next definitions names disk who command =
     let never : (asked : Entry) → Writes objects_machine definitions disk.state (new_session who) command asked true → ⊥ = λ asked it. never-writes who asked _ (asked_by definitions (new_session who) command asked it.asks).1 it.is in
     turn-cases objects_machine next definitions names disk (new_session who) command (λ (t : Turn ObjectsDisk). attempts_of (Some t.shared) ≡ attempts_of (Some disk)) (λ unwritten. refl) (λ asked it. absurd (never asked it)) (λ asked it. absurd (never asked it))
+
+pub any_defined : (d : List (List ℕ)) → d ≢ [] → is_any d ≡ true
+any_defined [] some = absurd (some refl)
+any_defined (name ∷ d) some = refl
 
 -- a world that was just opened, in which no session has appeared
 abbrev just_opened : List (List ℕ) → ObjectsDisk → ObjectsWorld
@@ -473,10 +477,6 @@ module _ {D : Type 0} (faults clock : D → ℕ) (crash : D → ℕ → List ℕ
   pub ended_opens : (old new : StoreWorld (StoreState D)) → Opens faults clock crash old new → old.definitions ≢ [] → Responds faults clock crash (event_means script_ends) None old new
   ended_opens old new opens some =
       opens_answer (event_means script_ends) old new opens (λ next opened tried. ap (λ (any : Bool). let w : ObjectsWorld = on_machine opened tried old in silent (if any then closed (machine next).opens w else w)) (any_defined old.definitions some))
-    where
-      any_defined : (d : List (List ℕ)) → d ≢ [] → is_any d ≡ true
-      any_defined [] some = absurd (some refl)
-      any_defined (name ∷ d) some = refl
 
   -- ---- what holds of the form of a line
 

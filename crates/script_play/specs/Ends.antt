@@ -1,10 +1,12 @@
 -- How a run of `play` ends, by its status: what it took of the script, what it wrote, and what it left on the disk.
-use Rattle.std.specs.Prelude.{◌≡◌, ◌≤◌, ◌<◌, ◌+◌, ◌++◌, ◌⊎◌, ◌∷◌, ℕ, Bool, true, false, List, [], length, take, Option, None, IfSome}
+use Rattle.std.specs.Prelude.{◌≡◌, ◌≤◌, ◌<◌, ◌+◌, ◌++◌, ◌⊎◌, ◌↔◌, ◌∷◌, ℕ, Bool, true, false, List, [], length, take, Option, None, IfSome}
 use Rattle.std.specs.Io.KnownBytes.{IsAtEnd}
-use Rattle.aw_io.specs.Known.{Gives, Grows, GrowsByFront}
+use Rattle.aw_io.specs.Known.{Gives, Grows}
 use Rattle.aw_codec.specs.declared.record.Decoded.{Decoded}
 use Rattle.aw_store.specs.Images.{HoldsRecords}
 use Rattle.script_meaning.specs.Matching.{CanBeOpened}
+use Rattle.ses_report.specs.Reports.{Answer}
+use Rattle.script_world.specs.Laws.{answers_of, Closes}
 use Rattle.script_world.specs.Outcomes.{Outcome, faulted, Attempt}
 use Rattle.script_world.specs.Worlds.{Event, text_of, ended_events, script_events}
 use Rattle.script_meaning.specs.AllDone.{AreDone}
@@ -16,6 +18,7 @@ use Rattle.script_disk.specs.declared.opening.Unopened.{Unopened}
 use Rattle.script_disk.specs.Opened.{IsUnopened, status_of as unopened_status}
 use Rattle.script_play.specs.declared.ending.Ending.{Ending}
 use Rattle.script_play.specs.declared.ending.Ending.TheVariants.{Accepted, Refusing, SourceFault, SinkFault, DiskFault, NoMemory, TooLong}
+use Rattle.script_play.specs.Cuts.{with_last, last_text, GrowsBehind}
 use Rattle.script_play.specs.Statuses.{most_bytes, status_of}
 use Rattle.script_play.specs.Turning.{FewFaults, defining}
 use Rattle.script_play.specs.Reading.{Streams}
@@ -40,13 +43,15 @@ module _ (s : Streams) (records : List Decoded) (outcomes : List Outcome) (made 
     pub refuses : has_refusal [] records outcomes taken ≡ refused
     pub attempted : attempts [] records outcomes (script_events taken) ≡ made
 
-  -- some events were taken up and made their attempts, and a front of their text was written
+  -- Some events were answered, and the answers written. Perhaps one more was taken up, and a front of its answer was written.
+  -- They made these attempts.
   pub record IsCut : Type 0 where
     pub size : length taken ≤ most_bytes
     pub events : List Event
-    pub are : AreEvents s taken events
-    pub wrote : GrowsByFront s.written_before s.written_now (text_of (by_history outcomes) (opening [] records) events)
-    pub attempted : attempts [] records outcomes events ≡ made
+    pub last : Option Event
+    pub are : AreEvents s taken (with_last events last)
+    pub wrote : GrowsBehind s.written_before s.written_now (text_of (by_history outcomes) (opening [] records) events) (last_text (by_history outcomes) (world_at [] records outcomes events) last)
+    pub attempted : attempts [] records outcomes (with_last events last) ≡ made
 
   -- the lines that ended in the bytes taken were answered
   pub record IsBroken : Type 0 where
@@ -60,14 +65,17 @@ module _ (s : Streams) (records : List Decoded) (outcomes : List Outcome) (made 
     pub wrote : Grows s.written_before s.written_now (ended_transcript [] records outcomes (take most_bytes taken))
     pub attempted : attempts [] records outcomes (ended_events (take most_bytes taken)) ≡ made
 
-  -- some lines were answered, which left nothing open, and the record of what they defined is the one attempt, and faulted
+  -- Some events were answered, which left nothing open. The next one closes the definitions: the record of all that were
+  -- accepted is the one attempt, and faulted.
   pub record IsUndefined : Type 0 where
     pub size : length taken ≤ most_bytes
     pub events : List Event
-    pub are : AreEvents s taken events
+    pub next : Event
+    pub are : AreEvents s taken (events ++ next ∷ [])
     pub wrote : Grows s.written_before s.written_now (text_of (by_history outcomes) (opening [] records) events)
     pub no_commits : outcomes ≡ []
     pub unopened : (world_at [] records outcomes events).shared ≡ None
+    pub closes : Closes (world_at [] records outcomes events) next
     pub attempted : made ≡ defining (world_at [] records outcomes events).definitions faulted ∷ []
 
   abbrev pub EndsSo : Ending → Type 0
@@ -89,9 +97,21 @@ pub record Contents : Type 0 where
 abbrev pub contents : Option (List ℕ) → Option (List ℕ) → ℕ → ℕ → Contents
 contents before now faults_before faults_now = record { before = before; now = now; faults_before = faults_before; faults_now = faults_now }
 
+-- The disk was opened with records, the script was read to its end, and what all of it is answered was written; P holds of
+-- these answers.
+pub record AnswersAll (s : Streams) (c : Contents) (P : List (Option Answer) → Type 0) : Type 0 where
+  pub records : List Decoded
+  pub holds : IfSome c.before (λ image. HoldsRecords image records)
+  pub taken : List ℕ
+  pub gives : Gives s.left_before s.left_now taken
+  pub at_end : IsAtEnd s.left_now
+  pub outcomes : List Outcome
+  pub wrote : Grows s.written_before s.written_now (transcript [] records outcomes taken)
+  pub answers : P (answers_of (by_history outcomes) (opening [] records) (script_events taken))
+
 module _ (s : Streams) (c : Contents) (before now : ℕ) (past since : ℕ → List ℕ → Type 0) where
   -- The disk was opened with records; lines were taken up, with these outcomes of their commits and these attempts, each of
-  -- which ended at a moment. Until the end of the load a crash leaves what it might have left at the beginning, and from then
+  -- which ended at a moment. Moments before the call keep their images. Until the end of the load a crash leaves what it might have left at the beginning, and from then
   -- on the records that these attempts may leave.
   pub record WasOpened (status : ℕ) : Type 0 where
     pub records : List Decoded
@@ -110,6 +130,7 @@ module _ (s : Streams) (c : Contents) (before now : ℕ) (past since : ℕ → L
     pub as_many : length ends ≡ length made
     pub from : before ≤ start
     pub rise : Rise start ends now
+    pub kept : (moment : ℕ) (image : List ℕ) → moment < before → since moment image ↔ past moment image
     pub loading : (moment : ℕ) (image : List ℕ) → before ≤ moment → moment < start → since moment image → past before image
     pub crash : (moment : ℕ) (image : List ℕ) → start ≤ moment → moment ≤ now → since moment image → HoldsLeft SameRecords records made (ended_by moment ends) image
     pub leaves : IfSome c.now (λ image. HoldsLeft SameRecords records made (length made) image)
@@ -121,6 +142,7 @@ module _ (s : Streams) (c : Contents) (before now : ℕ) (past since : ℕ → L
     pub tells : IsUnopened why c.before s.written_before s.written_now
     pub left : s.left_now ≡ s.left_before
     pub content : c.now ≡ c.before
+    pub kept : (moment : ℕ) (image : List ℕ) → moment < before → since moment image ↔ past moment image
     pub undisturbed : (moment : ℕ) (image : List ℕ) → before ≤ moment → moment ≤ now → since moment image → past before image
 
   abbrev pub Plays : ℕ → Type 0

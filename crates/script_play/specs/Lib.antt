@@ -1,3 +1,4 @@
+pub mod Cuts
 pub mod StoreWorlds
 pub mod Turning
 pub mod Playing

@@ -1,5 +1,5 @@
 -- What a player has done with the bytes that it was fed: from records with which a disk was opened, and from the disk as it was then.
-use Rattle.std.specs.Prelude.{◌≡◌, ◌++◌, ◌⊎◌, ℕ, Bool, false, List, [], ◌∷◌, map, Option, None, Some, Result, Ok, Err}
+use Rattle.std.specs.Prelude.{◌≡◌, ◌++◌, ◌⊎◌, ℕ, Bool, true, false, List, [], ◌∷◌, map, Option, None, Some, Result, Ok, Err}
 use Rattle.aw_lists.specs.Faults.{Rose}
 use Rattle.aw_io.specs.Known.{Grows, GrowsByFront}
 use Rattle.aw_codec.specs.declared.record.Decoded.{Decoded}
@@ -8,10 +8,10 @@ use Rattle.aw_store.specs.Stores.{StoreState}
 use Rattle.ses_step.specs.Answers.{answer_line, is_refusal}
 use Rattle.script_world.specs.Outcomes.{Outcome, faulted, Attempt, all_attempts, attempts_of}
 use Rattle.script_world.specs.Script.{open_line, script_lines}
-use Rattle.script_world.specs.Worlds.{Event, line, text_of, ended_events, script_events}
+use Rattle.script_world.specs.Worlds.{Event, line, block_ends, script_ends, text_of, ended_events, script_events}
 use Rattle.script_meaning.specs.Alike.{objects_at}
 use Rattle.script_meaning.specs.Faring.{StoreFares}
-use Rattle.script_meaning.specs.Language.{by_objects}
+use Rattle.script_meaning.specs.Language.{is_any, by_objects}
 use Rattle.script_meaning.specs.SameRecords.{SameRecords}
 use Rattle.script_meaning.specs.StoreRuns.{StoreRun}
 use Rattle.script_meaning.specs.Transcript.{opening_objects}
@@ -19,8 +19,9 @@ use Rattle.script_play.specs.declared.world.StoreWorld.{StoreWorld}
 use Rattle.script_play.specs.declared.stop.Stop.{Stop}
 use Rattle.script_play.specs.declared.stop.Stop.TheVariants.{SinkFault, DiskFault, NoMemory}
 use Rattle.script_play.specs.declared.response.Response.{Response}
+use Rattle.script_play.specs.Cuts.{with_last, last_text, GrowsBehind}
 use Rattle.script_play.specs.StoreWorlds.{world_of, IsMade}
-use Rattle.script_play.specs.Turning.{FewFaults, defining, Later, line_means, Responds, Wants, FailsToOpen}
+use Rattle.script_play.specs.Turning.{FewFaults, defining, Later, line_means, IsOfSession, Responds, Wants, FailsToOpen}
 
 -- what is written of a response, and whether it is a refusal
 abbrev pub said_of : Option Response → List ℕ
@@ -37,6 +38,12 @@ WritesSo response (Ok refused) before now = (refused ≡ is_refusal response.ans
 WritesSo response (Err SinkFault) before now = GrowsByFront before now (answer_line response.prefix response.answer)
 WritesSo response (Err NoMemory) before now = GrowsByFront before now (answer_line response.prefix response.answer)
 WritesSo response (Err DiskFault) before now = ⊥
+
+-- a session's line closes the definitions, and so does the end of a script with any
+abbrev pub ClosesWith : List (List ℕ) → Event → Type 0
+ClosesWith definitions (line text) = IsOfSession text
+ClosesWith definitions block_ends = ⊥
+ClosesWith definitions script_ends = is_any definitions ≡ true
 
 -- the world, the bytes of the line that hasn't ended, and whether a line was refused
 pub record Play (D : Type 0) : Type 0 where
@@ -64,7 +71,7 @@ module _ {D : Type 0} (faults clock : D → ℕ) (crash : D → ℕ → List ℕ
   RespondedSo text (Ok refused) old new before now = Responded text refused old new before now
   RespondedSo text (Err SinkFault) old new before now = CutIn text old new before now
   RespondedSo text (Err NoMemory) old new before now = CutIn text old new before now ⊎ (Wants faults clock crash (line_means text) old new × (now ≡ before))
-  RespondedSo text (Err DiskFault) old new before now = FailsToOpen faults clock crash old new × (now ≡ before)
+  RespondedSo text (Err DiskFault) old new before now = FailsToOpen faults clock crash old new × (now ≡ before) × IsOfSession text
 
   module _ (records : List Decoded) (at : D) where
     -- ---- lines
@@ -85,33 +92,32 @@ module _ {D : Type 0} (faults clock : D → ℕ) (crash : D → ℕ → List ℕ
       pub stands : Stands coming (all_attempts opened tried) w.store
       pub is_made : IsMade opened tried w.store
 
-    -- these events were taken up, and made their attempts
-    pub record HasTaken (events : List Event) (text : List ℕ) (store : StoreState D) : Type 0 where
-      pub coming : List Outcome
-      pub made : List (Attempt Decoded)
-      pub attempted : attempts_of (objects_at [] records coming events).shared ≡ made
-      pub due : text_of (by_objects coming) (opening_objects [] records) events ≡ text
-      pub stands : Stands coming made store
-
     -- ---- why a run stopped
 
-    -- the first of these events were taken up, and a front of their text was written
+    -- The first of these events were answered, and the answers written. Perhaps one more was taken up, and a front of its
+    -- answer was written. They made their attempts.
     pub record WasCut (all : List Event) (store : StoreState D) (before now : Option (List ℕ)) : Type 0 where
       pub events : List Event
+      pub last : Option Event
       pub rest : List Event
-      pub front : all ≡ events ++ rest
-      pub text : List ℕ
-      pub taken : HasTaken events text store
-      pub written : GrowsByFront before now text
+      pub front : all ≡ with_last events last ++ rest
+      pub coming : List Outcome
+      pub made : List (Attempt Decoded)
+      pub attempted : attempts_of (objects_at [] records coming (with_last events last)).shared ≡ made
+      pub written : GrowsBehind before now (text_of (by_objects coming) (opening_objects [] records) events) (last_text (by_objects coming) (objects_at [] records coming events) last)
+      pub stands : Stands coming made store
 
-    -- the first of these events were answered, nothing was open then, and the disk failed while the definitions were written
+    -- The first of these events were answered, and nothing was open then. The next one closes the definitions, and the disk
+    -- failed while they were written.
     pub record HasFailed (all : List Event) (store : StoreState D) (before now : Option (List ℕ)) : Type 0 where
       pub events : List Event
+      pub next : Event
       pub rest : List Event
-      pub front : all ≡ events ++ rest
+      pub front : all ≡ (events ++ next ∷ []) ++ rest
       pub text : List ℕ
       pub refused : Bool
       pub w : StoreWorld (StoreState D)
+      pub closes : ClosesWith w.definitions next
       pub unopened : names_of w.store.records ≡ None
       pub run : StoreRun [] records events [] None [] text refused (world_of w)
       pub stands : Stands [] (defining w.definitions faulted ∷ []) store

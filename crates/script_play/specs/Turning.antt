@@ -17,6 +17,7 @@ use Rattle.ses_step.specs.declared.line.Line.{Line}
 use Rattle.ses_step.specs.declared.line.Line.TheVariants as line
 use Rattle.ses_step.specs.declared.session.Known.{Known}
 use Rattle.ses_step.specs.declared.session.Session.{Session}
+use Rattle.ses_step.specs.Lines.{line_form}
 use Rattle.ses_step.specs.Sessions.{finished}
 use Rattle.script_world.specs.Faults.{has_faulted}
 use Rattle.script_world.specs.Outcomes.{Outcome, done, faulted, Attempt, on_disk, all_attempts, attempts_of}
@@ -52,6 +53,12 @@ DefinesName (line.Definition name) = is_name name ≡ true
 DefinesName (line.Session name command) = Unit {0}
 DefinesName line.Blank = Unit {0}
 DefinesName line.Malformed = Unit {0}
+
+-- a line under a session's name
+pub record IsOfSession (text : List ℕ) : Type 0 where
+  pub name : List ℕ
+  pub command : Option Command
+  pub is : line_form text ≡ line.Session name command
 
 -- ---- what a line means on the machine, by the outcomes of its commits
 
@@ -212,7 +219,7 @@ module _ {D : Type 0} (faults clock : D → ℕ) (crash : D → ℕ → List ℕ
   -- the script has ended: what was only defined is written
   abbrev pub FinishesWorldSo : Result (Unit {0}) Stop → StoreWorld (StoreState D) → StoreWorld (StoreState D) → Type 0
   FinishesWorldSo (Ok nothing) old new = ((new ≡ old) × (IsOpen old.store ⊎ (old.definitions ≡ []))) ⊎ (Opens old new × (old.definitions ≢ []))
-  FinishesWorldSo (Err DiskFault) old new = FailsToOpen old new
+  FinishesWorldSo (Err DiskFault) old new = FailsToOpen old new × (old.definitions ≢ [])
   FinishesWorldSo (Err NoMemory) old new = new ≡ old
   FinishesWorldSo (Err SinkFault) old new = ⊥
 

@@ -1,12 +1,14 @@
-ghost use Rattle.std.specs.Prelude.{◌≡◌, ◌≢◌, ◌≤◌, IsSome};
+ghost use Rattle.std.specs.Prelude.{◌≡◌, ◌≢◌, ◌≤◌, IfSome, IsSome};
 ghost use Rattle.aw_lists.specs.Faults.{Rose};
 ghost use Rattle.script_disk.specs.Dumped.{Dumps, CompletesDump};
 ghost use Rattle.script_disk.specs.Formatted.{AreFormatted};
 ghost use Rattle.script_disk.specs.Made.{Makes};
+ghost use Rattle.script_disk.specs.Opened.{ExplainsContent};
 ghost use Rattle.script_disk.specs.Texts.{Says};
+ghost use Rattle.script_world.specs.Laws.{NoneRefused, SomeRefused};
 ghost use Rattle.script_play.specs.Statuses as spec;
 ghost use Rattle.script_play.specs.Reading.{streams};
-ghost use Rattle.script_play.specs.Ends.{Plays, Completes, contents};
+ghost use Rattle.script_play.specs.Ends.{Plays, Completes, AnswersAll, contents};
 
 use crate::top::play;
 use aw_cell::Text;
@@ -97,6 +99,9 @@ pub fn run<S: Source, K: Sink, D: Disk>(
     ensures completes { spec.command_of words.now ≡ Command.Play → AreFormatted (D.crash disk.old (D.clock disk.old)) → IsSome (D.content disk.old)
         → ¬ (Rose (S.faults script.old) (S.faults script.new)) → ¬ (Rose (K.faults out.old) (K.faults out.new)) → ¬ (Rose (D.faults disk.old) (D.faults disk.new))
         → Completes (streams (S.left script.old) (S.left script.new) (K.written out.old) (K.written out.new)) (contents (D.content disk.old) (D.content disk.new) (D.faults disk.old) (D.faults disk.new)) (D.clock disk.old) (D.clock disk.new) (D.crash disk.old) (D.crash disk.new) result }
+    ensures explains { spec.command_of words.now ≡ Command.Play → IfSome (D.content disk.old) (ExplainsContent result) }
+    ensures accepted { spec.command_of words.now ≡ Command.Play → result ≡ 0 → AnswersAll (streams (S.left script.old) (S.left script.new) (K.written out.old) (K.written out.new)) (contents (D.content disk.old) (D.content disk.new) (D.faults disk.old) (D.faults disk.new)) NoneRefused }
+    ensures refused { spec.command_of words.now ≡ Command.Play → result ≡ 1 → AnswersAll (streams (S.left script.old) (S.left script.new) (K.written out.old) (K.written out.new)) (contents (D.content disk.old) (D.content disk.new) (D.faults disk.old) (D.faults disk.new)) SomeRefused }
     ensures makes { spec.command_of words.now ≡ Command.New
         → Makes D.content D.faults D.clock D.crash disk.old disk.new (K.written out.old) (K.written out.new) result }
     ensures dumps { spec.command_of words.now ≡ Command.Dump
@@ -104,6 +109,7 @@ pub fn run<S: Source, K: Sink, D: Disk>(
     ensures dump_completes { spec.command_of words.now ≡ Command.Dump → AreFormatted (D.crash disk.old (D.clock disk.old)) → IsSome (D.content disk.old)
         → ¬ (Rose (D.faults disk.old) (D.faults disk.new)) → ¬ (Rose (K.faults out.old) (K.faults out.new))
         → CompletesDump result }
+    ensures dump_explains { spec.command_of words.now ≡ Command.Dump → IfSome (D.content disk.old) (ExplainsContent result) }
     ensures refuses { spec.command_of words.now ≡ Command.Other → Says 2 spec.usage result (K.written out.old) (K.written out.new) }
     ensures untouched { spec.command_of words.now ≢ Command.Play → script.new ≡ script.old }
     ensures unopened { spec.command_of words.now ≡ Command.Other → disk.new ≡ disk.old }

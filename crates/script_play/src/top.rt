@@ -1,13 +1,15 @@
-ghost use Rattle.std.specs.Prelude.{◌≡◌, ◌<◌, ◌≤◌, [], IfOk, IsSome, length, vec_len, unwrap_or};
+ghost use Rattle.std.specs.Prelude.{◌≡◌, ◌<◌, ◌≤◌, [], IfOk, IfSome, IsSome, length, vec_len, unwrap_or};
 ghost use Rattle.aw_lists.specs.Faults.{Rose};
 ghost use Rattle.aw_store.specs.Replay.{names_of};
 ghost use Rattle.script_disk.specs.Formatted.{AreFormatted};
+ghost use Rattle.script_disk.specs.Opened.{ExplainsContent};
+ghost use Rattle.script_world.specs.Laws.{NoneRefused, SomeRefused};
 ghost use Rattle.script_play.specs.declared.ending.Ending.TheVariants as ending;
 ghost use Rattle.script_play.specs.StoreWorlds.{IsSound};
 ghost use Rattle.script_play.specs.Players.{play_of};
 ghost use Rattle.script_play.specs.Reading.{EndsFrom, FinishesBy, streams};
 ghost use Rattle.script_play.specs.Opened.{opened_play};
-ghost use Rattle.script_play.specs.Ends.{Plays, Completes, contents};
+ghost use Rattle.script_play.specs.Ends.{Plays, Completes, AnswersAll, contents};
 
 use crate::ending::Ending;
 use crate::player::Player;
@@ -202,6 +204,9 @@ fn play_disk<'a, D: Disk, S: Source, K: Sink>(
     ensures completes { AreFormatted (D.crash disk (D.clock disk)) → IsSome (D.content disk)
         → ¬ (Rose (S.faults devices.entry.script.now) (S.faults result.1.1.script.now)) → ¬ (Rose (K.faults devices.entry.out.now) (K.faults result.1.1.out.now)) → ¬ (Rose (D.faults disk) (D.faults result.0))
         → Completes (streams (S.left devices.entry.script.now) (S.left result.1.1.script.now) (K.written devices.entry.out.now) (K.written result.1.1.out.now)) (contents (D.content disk) (D.content result.0) (D.faults disk) (D.faults result.0)) (D.clock disk) (D.clock result.0) (D.crash disk) (D.crash result.0) result.1.0 }
+    ensures explains { IfSome (D.content disk) (ExplainsContent result.1.0) }
+    ensures accepted { result.1.0 ≡ 0 → AnswersAll (streams (S.left devices.entry.script.now) (S.left result.1.1.script.now) (K.written devices.entry.out.now) (K.written result.1.1.out.now)) (contents (D.content disk) (D.content result.0) (D.faults disk) (D.faults result.0)) NoneRefused }
+    ensures refused { result.1.0 ≡ 1 → AnswersAll (streams (S.left devices.entry.script.now) (S.left result.1.1.script.now) (K.written devices.entry.out.now) (K.written result.1.1.out.now)) (contents (D.content disk) (D.content result.0) (D.faults disk) (D.faults result.0)) SomeRefused }
     ensures source_later { S.faults devices.entry.script.now ≤ S.faults result.1.1.script.now }
     ensures sink_later { K.faults devices.entry.out.now ≤ K.faults result.1.1.out.now }
     ensures disk_later { D.faults disk ≤ D.faults result.0 }
@@ -225,6 +230,9 @@ pub fn play<D: Disk, S: Source, K: Sink>(
     ensures completes { AreFormatted (D.crash disk.old (D.clock disk.old)) → IsSome (D.content disk.old)
         → ¬ (Rose (S.faults script.old) (S.faults script.new)) → ¬ (Rose (K.faults out.old) (K.faults out.new)) → ¬ (Rose (D.faults disk.old) (D.faults disk.new))
         → Completes (streams (S.left script.old) (S.left script.new) (K.written out.old) (K.written out.new)) (contents (D.content disk.old) (D.content disk.new) (D.faults disk.old) (D.faults disk.new)) (D.clock disk.old) (D.clock disk.new) (D.crash disk.old) (D.crash disk.new) result }
+    ensures explains { IfSome (D.content disk.old) (ExplainsContent result) }
+    ensures accepted { result ≡ 0 → AnswersAll (streams (S.left script.old) (S.left script.new) (K.written out.old) (K.written out.new)) (contents (D.content disk.old) (D.content disk.new) (D.faults disk.old) (D.faults disk.new)) NoneRefused }
+    ensures refused { result ≡ 1 → AnswersAll (streams (S.left script.old) (S.left script.new) (K.written out.old) (K.written out.new)) (contents (D.content disk.old) (D.content disk.new) (D.faults disk.old) (D.faults disk.new)) SomeRefused }
     ensures source_later { S.faults script.old ≤ S.faults script.new }
     ensures sink_later { K.faults out.old ≤ K.faults out.new }
     ensures disk_later { D.faults disk.old ≤ D.faults disk.new }

@@ -4,7 +4,7 @@ ghost use Rattle.aw_store.specs.Replay.{names_of};
 ghost use Rattle.ses_step.specs.Words.{place_of};
 ghost use Rattle.script_world.specs.Worlds as spec;
 ghost use Rattle.script_play.specs.StoreWorlds.{IsSound, JoinsSo, can_join, own_known, own_place, placed};
-ghost use Rattle.script_play.specs.Turning.{TurnsAt, TurnWants, Answers, Wants, OpensSo, ClosesSo, FinishesWorldSo, RespondsSo, IsOpen, command_means, session_means, named_means, line_means};
+ghost use Rattle.script_play.specs.Turning.{TurnsAt, TurnWants, Answers, Wants, OpensSo, ClosesSo, FinishesWorldSo, RespondsSo, IsOpen, IsOfSession, command_means, session_means, named_means, line_means};
 
 use crate::response::Response;
 use crate::stop::Stop;
@@ -247,6 +247,7 @@ impl<D: Disk> StoreWorld<Store<D>> {
     pub fn answer(&mut self, alloc: Global, line: &[u8]) -> Result<Option<Response>, Stop>
         requires { IsSound self.old }
         ensures responds { RespondsSo D.faults D.clock D.crash (line_means line.now) result self.old self.new }
+        ensures closes { result ≡ Err Stop.DiskFault → IsOfSession line.now }
     {
         let form = match read_line(alloc, line) {
             Ok(form) => form,
