@@ -465,150 +465,51 @@ mod tests {
         Ok(Text::of(bytes).ok_or("no text")?)
     }
 
-    /// The answer to a command, and the entry that it asks for and that the reply replies to.
-    fn turn(
-        alloc: Global,
-        session: &mut Session,
-        command: &Command,
-        reply: &Reply,
-    ) -> Result<(Answer, Option<Entry>), Fail> {
-        let mut definitions = Names::new(alloc);
-        for name in [text(b"v")?, text(b"w")?] {
-            definitions.push(name)?;
-        }
-        let names = [text(b"a")?, text(b"b")?];
-        match session.begin(alloc, &definitions, command)? {
-            Begun::Said(answer) => Ok((answer, None)),
-            Begun::Ask(asked) => {
-                let definitions = definitions.as_slice();
-                let answer = session.finish(alloc, definitions, &names, reply)?;
-                Ok((answer, Some(asked)))
-            }
+    /// Whether a session that gets this reply refuses its command so.
+    fn is_refused(alloc: Global, texts: &[Text; 4], reply: &Reply, refusal: &Refusal) -> bool {
+        let [v, w, a, b] = texts;
+        match Session::new(0).finish(alloc, &[*v, *w], &[*a, *b], reply) {
+            Ok(answer) => answer == Answer::Refused(*refusal),
+            Err(_) => false,
         }
     }
 
-    fn attached(alloc: Global) -> Result<Reply, Fail> {
-        let fresh = [(0, 4, Cell::Na), (1, 2, Cell::Int(3))].map(|(object, number, cell)| Fresh {
-            object,
+    fn refusal(number: u8, detail: Detail) -> Refusal {
+        let line = 0;
+        Refusal {
             number,
-            cell,
-        });
-        Ok(Reply::Attached(List::from_slice(alloc, &fresh)?))
-    }
-
-    fn view(object: u16, number: u64, cell: Cell, owned: bool) -> View {
-        let base = cell;
-        let staged = cell;
-        View {
-            object,
-            number,
-            base,
-            staged,
-            private: cell,
-            owned,
+            line,
+            detail,
         }
-    }
-
-    fn commit_of(alloc: Global, object: u16, cell: Cell) -> Result<Entry, Fail> {
-        let changes = List::from_slice(alloc, &[Change { object, cell }])?;
-        Ok(Entry::Commit { who: 1, changes })
-    }
-
-    fn asks(entry: Entry) -> (Answer, Option<Entry>) {
-        (Answer::Done, Some(entry))
-    }
-
-    #[test]
-    fn commits_what_is_acquired_and_staged(rt: HostRuntime) -> Result<(), Fail> {
-        let (alloc, v, seven) = (rt.alloc(), text(b"v")?, Cell::Int(7));
-        let (nothing, done) = (Reply::NoMemory, (Answer::Done, None));
-        let mut session = Session::new(1);
-        let attach = turn(alloc, &mut session, &Command::Attach, &attached(alloc)?)?;
-        assert_eq!(rt; attach, asks(Entry::Attach { who: 1 }));
-        let assign = Command::Assign { name: v, value: 7 };
-        for command in [assign, Command::Update, Command::Commit] {
-            assert_eq!(rt; turn(alloc, &mut session, &command, &nothing)?, done);
-        }
-        let acquire = turn(alloc, &mut session, &Command::Acquire(v), &Reply::Acquired)?;
-        let entry = Entry::Acquire {
-            who: 1,
-            object: 0,
-            number: 4,
-        };
-        assert_eq!(rt; acquire, asks(entry));
-        let show = turn(alloc, &mut session, &Command::Show(v), &nothing)?;
-        assert_eq!(rt; show, (Answer::Shown(seven), None));
-        let update = turn(alloc, &mut session, &Command::Update, &nothing)?;
-        assert_eq!(rt; update, done);
-        let commit = turn(alloc, &mut session, &Command::Commit, &Reply::Committed)?;
-        assert_eq!(rt; commit, asks(commit_of(alloc, 0, seven)?));
-        let views = [view(0, 5, seven, true), view(1, 2, Cell::Int(3), false)];
-        assert_eq!(rt; session.known.views, Some(List::from_slice(alloc, &views)?));
-        Ok(())
-    }
-
-    #[test]
-    fn refuses_by_itself(rt: HostRuntime) -> Result<(), Fail> {
-        let (alloc, v, unknown) = (rt.alloc(), text(b"v")?, text(b"u")?);
-        let mut session = Session::new(1);
-        let cases = [
-            (Command::Show(unknown), Refusal::no_form()),
-            (Command::Show(v), Refusal::not_attached()),
-            (Command::Acquire(v), Refusal::not_attached()),
-            (
-                Command::Assign { name: v, value: 7 },
-                Refusal::not_attached(),
-            ),
-            (Command::Update, Refusal::not_attached()),
-            (Command::Commit, Refusal::not_attached()),
-        ];
-        for (command, refusal) in cases {
-            let answered = turn(alloc, &mut session, &command, &Reply::Acquired)?;
-            assert_eq!(rt; answered, (Answer::Refused(refusal), None));
-        }
-        let _ = turn(alloc, &mut session, &Command::Attach, &attached(alloc)?)?;
-        let answered = turn(alloc, &mut session, &Command::Attach, &Reply::Acquired)?;
-        let refusal = Refusal::already_attached();
-        assert_eq!(rt; answered, (Answer::Refused(refusal), None));
-        Ok(())
     }
 
     #[test]
     fn refuses_by_the_reply(rt: HostRuntime) -> Result<(), Fail> {
-        let (alloc, v, w) = (rt.alloc(), text(b"v")?, text(b"w")?);
-        let mut session = Session::new(0);
-        let _ = turn(alloc, &mut session, &Command::Attach, &attached(alloc)?)?;
-        let cases = [
-            (
-                Reply::Owned { object: 0, by: 1 },
-                17,
-                Detail::Two(v, text(b"b")?),
-            ),
-            (
-                Reply::Newer {
-                    object: 1,
-                    number: 5,
-                },
-                18,
-                Detail::Count(w, 5),
-            ),
-            (Reply::Stranger { object: 1 }, 19, Detail::One(w)),
-            (Reply::Worn { object: 0 }, 22, Detail::One(v)),
-            (Reply::Fault, 30, Detail::Nothing),
-        ];
-        for (reply, number, detail) in cases {
-            let (answer, _) = turn(alloc, &mut session, &Command::Acquire(v), &reply)?;
-            assert_eq!(rt;
-                answer,
-                Answer::Refused(Refusal {
-                    number,
-                    line: 0,
-                    detail
-                })
-            );
-        }
-        let refused = session.finish(alloc, &[], &[], &Reply::NoMemory);
-        assert!(rt; refused.is_err());
+        let (v, w, b) = (text(b"v")?, text(b"w")?, text(b"b")?);
+        let (alloc, texts) = (rt.alloc(), [v, w, text(b"a")?, b]);
+        let (owned, stranger) = (
+            Reply::Owned { object: 0, by: 1 },
+            Reply::Stranger { object: 1 },
+        );
+        let all = is_refused(alloc, &texts, &owned, &refusal(17, Detail::Two(v, b)))
+            & is_refused(alloc, &texts, &stranger, &refusal(19, Detail::One(w)))
+            & is_refused(alloc, &texts, &Reply::Fault, &refusal(30, Detail::Nothing));
+        assert!(rt; all);
+        Ok(())
+    }
+
+    #[test]
+    fn refuses_by_the_number(rt: HostRuntime) -> Result<(), Fail> {
+        let (v, w, b) = (text(b"v")?, text(b"w")?, text(b"b")?);
+        let (alloc, texts) = (rt.alloc(), [v, w, text(b"a")?, b]);
+        let newer = Reply::Newer {
+            object: 1,
+            number: 5,
+        };
+        let worn = Reply::Worn { object: 0 };
+        let all = is_refused(alloc, &texts, &newer, &refusal(18, Detail::Count(w, 5)))
+            & is_refused(alloc, &texts, &worn, &refusal(22, Detail::One(v)));
+        assert!(rt; all);
         Ok(())
     }
 
