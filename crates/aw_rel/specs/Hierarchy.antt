@@ -1,4 +1,4 @@
--- Hierarchies. A relation with one dimension gives each value of it at most one parent, another value of the same dimension. Contracts
+-- Hierarchies. A relation with one dimension gives each value of it at most one parent, a value of the same dimension. Contracts
 -- see a hierarchy as the list of the dimension's values in their order, each by its slot and with its parent, where it has one.
 use Rattle.std.specs.Prelude.{ℕ, ◌≡◌, ◌≢◌, ◌==◌, ◌&&◌, ◌||◌, zero, suc, Bool as Truth, false, not, cond, is_some, List, [], ◌∷◌, length, map, Option, Some, None, IsTrue, ⊤}
 use Rattle.std.specs.List.{filter, find, list_any, AllPairs}
