@@ -1,0 +1,5 @@
+use Rattle.mv_view.proofs.Changes.{may-commit}
+use Rattle.mv_view.proofs.laws.changes_may_be_committed.Goals as goal
+
+pub returns : goal.returns
+returns c = may-commit c.difference_gives_newer.ensures

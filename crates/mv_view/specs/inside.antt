@@ -1,0 +1,4 @@
+-- What private functions alone need.
+pub mod Holding
+pub mod Places
+pub mod Steps
