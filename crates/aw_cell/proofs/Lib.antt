@@ -5,7 +5,10 @@ mod NumberLaws
 mod Numerals
 mod Padding
 mod Quotient
+mod RangeLaws
 mod Reading
 mod RoundedAlone
 mod Rounding
+mod TableLaws
 mod Utf8
+mod Worked

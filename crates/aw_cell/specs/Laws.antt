@@ -1,11 +1,13 @@
 -- Laws on numbers and cells, each over every number, text or cell.
-use Rattle.std.specs.Prelude.{◌≡◌, ◌≢◌, ◌⊎◌, ℕ, Bool as Truth, true, false, List, IsTrue, ℤ, pos, Ok}
+use Rattle.std.specs.Prelude.{◌≡◌, ◌≢◌, ◌⊎◌, ℕ, Bool as Truth, true, false, List, IsTrue, ℤ, pos, negsuc, ◌≤ℤ◌, Ok, IfOk}
 use Rattle.aw_cell.specs.declared.cell.Cell.{Cell}
-use Rattle.aw_cell.specs.declared.cell.Cell.TheVariants.{Num, Int, Text, Bool}
+use Rattle.aw_cell.specs.declared.cell.Cell.TheVariants.{Na, Num, Int, Text, Bool}
+use Rattle.aw_cell.specs.declared.cell.Kind.{Kind}
 use Rattle.aw_cell.specs.declared.comparison.Order.TheVariants.{Eq, Ne, Lt, Le, Gt, Ge}
 use Rattle.aw_cell.specs.Number.{IsInRange}
 use Rattle.aw_cell.specs.Rounding.{rounded, IsRounded}
 use Rattle.aw_cell.specs.Arithmetic.{number_sum, number_product, number_quotient}
+use Rattle.aw_cell.specs.CellArithmetic.{cell_sum, cell_difference, cell_product, cell_quotient, cell_negation, cell_size, cell_least, cell_greatest, converted}
 use Rattle.aw_cell.specs.Numeral.{Spells}
 use Rattle.aw_cell.specs.CellText.{number_text}
 use Rattle.aw_cell.specs.Comparison.{are_equal, can_be_ordered, compared}
@@ -46,7 +48,40 @@ pub record RoundsToTheNearest : Type 0 where
   pub nearest : (p q : ℤ) → q ≢ pos 0 → IsRounded p q (rounded p q)
   pub alone : (p q r : ℤ) → q ≢ pos 0 → IsRounded p q r → r ≡ rounded p q
 
+-- the range of a cell's kind: a NUMBER has eighteen digits, and an INTEGER lies as far below zero as above
+abbrev pub IsCellInRange : Cell → Type 0
+IsCellInRange (Num units) = IsInRange units
+IsCellInRange (Int whole) = (negsuc 2147483646 ≤ℤ whole) × (whole ≤ℤ pos 2147483647)
+IsCellInRange _ = Unit {0}
+
+-- what arithmetic gives is in the range of its kind, where the operands are
+pub record StaysInRange : Type 0 where
+  pub sum : (a b : Cell) → IfOk (cell_sum a b) IsCellInRange
+  pub difference : (a b : Cell) → IfOk (cell_difference a b) IsCellInRange
+  pub product : (a b : Cell) → IfOk (cell_product a b) IsCellInRange
+  pub quotient : (a b : Cell) → IfOk (cell_quotient a b) IsCellInRange
+  pub negation : (a : Cell) → IsCellInRange a → IfOk (cell_negation a) IsCellInRange
+  pub size : (a : Cell) → IsCellInRange a → IfOk (cell_size a) IsCellInRange
+  pub least : (a b : Cell) → IsCellInRange a → IsCellInRange b → IfOk (cell_least a b) IsCellInRange
+  pub greatest : (a b : Cell) → IsCellInRange a → IsCellInRange b → IfOk (cell_greatest a b) IsCellInRange
+  pub conversion : (kind : Kind) (a : Cell) → IsCellInRange a → IfOk (converted kind a) IsCellInRange
+
 -- ---- comparison
+
+-- a cell EQ itself is YES
+abbrev pub EqualToItself : Type 0
+EqualToItself = (a : Cell) → compared Eq a a ≡ Bool true
+
+-- NA compared with NA, and with any other cell
+pub record ComparesWithNa : Type 0 where
+  pub both_eq : compared Eq Na Na ≡ Bool true
+  pub both_ne : compared Ne Na Na ≡ Bool false
+  pub one_eq : (a : Cell) → a ≢ Na → (compared Eq Na a ≡ Bool false) × (compared Eq a Na ≡ Bool false)
+  pub one_ne : (a : Cell) → a ≢ Na → (compared Ne Na a ≡ Bool true) × (compared Ne a Na ≡ Bool true)
+  pub lt : (a : Cell) → (compared Lt Na a ≡ Na) × (compared Lt a Na ≡ Na)
+  pub le : (a : Cell) → (compared Le Na a ≡ Na) × (compared Le a Na ≡ Na)
+  pub gt : (a : Cell) → (compared Gt Na a ≡ Na) × (compared Gt a Na ≡ Na)
+  pub ge : (a : Cell) → (compared Ge Na a ≡ Na) × (compared Ge a Na ≡ Na)
 
 -- whether a cell is an INTEGER or a NUMBER
 abbrev pub is_number : Cell → Truth
@@ -79,6 +114,43 @@ pub record OrdersAgree : Type 0 where
   pub less : (a b : Cell) → compared Lt a b ≡ negated (compared Ge a b)
 
 -- ---- logic
+
+-- AND of each pair, a row for each
+pub record AndOfEachPair : Type 0 where
+  pub yes_yes : both (Bool true) (Bool true) ≡ Bool true
+  pub yes_no : both (Bool true) (Bool false) ≡ Bool false
+  pub yes_na : both (Bool true) Na ≡ Na
+  pub no_yes : both (Bool false) (Bool true) ≡ Bool false
+  pub no_no : both (Bool false) (Bool false) ≡ Bool false
+  pub no_na : both (Bool false) Na ≡ Bool false
+  pub na_yes : both Na (Bool true) ≡ Na
+  pub na_no : both Na (Bool false) ≡ Bool false
+  pub na_na : both Na Na ≡ Na
+
+-- OR of each pair
+pub record OrOfEachPair : Type 0 where
+  pub yes_yes : either (Bool true) (Bool true) ≡ Bool true
+  pub yes_no : either (Bool true) (Bool false) ≡ Bool true
+  pub yes_na : either (Bool true) Na ≡ Bool true
+  pub no_yes : either (Bool false) (Bool true) ≡ Bool true
+  pub no_no : either (Bool false) (Bool false) ≡ Bool false
+  pub no_na : either (Bool false) Na ≡ Na
+  pub na_yes : either Na (Bool true) ≡ Bool true
+  pub na_no : either Na (Bool false) ≡ Na
+  pub na_na : either Na Na ≡ Na
+
+-- NOT of each
+pub record NotOfEach : Type 0 where
+  pub yes : negated (Bool true) ≡ Bool false
+  pub no : negated (Bool false) ≡ Bool true
+  pub na : negated Na ≡ Na
+
+-- NO decides AND, and YES decides OR, whatever stands on the other side
+pub record OneSideDecides : Type 0 where
+  pub no_and : (a : Cell) → both (Bool false) a ≡ Bool false
+  pub and_no : (a : Cell) → both a (Bool false) ≡ Bool false
+  pub yes_or : (a : Cell) → either (Bool true) a ≡ Bool true
+  pub or_yes : (a : Cell) → either a (Bool true) ≡ Bool true
 
 -- NOT turns AND into OR and OR into AND, NA included
 pub record DeMorgan : Type 0 where

@@ -16,8 +16,9 @@ mod text;
 pub use cell::{Cell, Kind};
 pub use comparison::Order;
 pub use laws::{
-    comparison_orders, de_morgan, numerals_have_one_value, one_is_neutral, orders_agree,
-    rounds_to_the_nearest, sums_in_any_order, texts_are_numerals, texts_tell_apart,
+    arithmetic_stays_in_range, comparison_orders, de_morgan, na_compares_with_na,
+    numerals_have_one_value, one_is_neutral, orders_agree, rounds_to_the_nearest,
+    sums_in_any_order, texts_are_numerals, texts_tell_apart, truth_tables,
 };
 pub use name::{begins_with_letter, is_name, is_same_word, is_word_byte};
 pub use number::{Arith, Number};
