@@ -9,3 +9,4 @@ pub mod Each
 pub mod Bytes
 pub mod Answering
 pub mod CallerLemmas
+mod Worked
