@@ -163,7 +163,9 @@ mod tests {
         assert_eq!(rt; list, List::from_slice(rt.alloc(), &[4, 5])?);
         list.clear();
         assert_ne!(rt; list, List::from_vec(vec![in rt.alloc(); 4_u16]?));
-        assert!(rt; list.into_vec().is_empty());
+        // What was let go leaves its memory to others.
+        let items = list.into_vec();
+        assert!(rt; items.is_empty() & (items.capacity() >= 2));
         Ok(())
     }
 
