@@ -6,7 +6,7 @@ use Rattle.aw_disk.specs.declared.step.Step.{Step}
 use Rattle.aw_disk.specs.declared.step.Step.TheVariants.{Write, Sync}
 use Rattle.aw_disk.specs.Calls.{Written, HalfWritten, length_limit}
 use Rattle.aw_disk.specs.Images.{overwritten, Torn, TornFrom, Torn-same, Torn-overwritten}
-use Rattle.aw_disk.specs.MemDisk.{MemDiskState, content_after, content_of, left_at, with_step, counted, faulted, content-left, LeftAfter}
+use Rattle.aw_disk.specs.MemDisk.{MemDiskState, content_after, content_of, left_at, with_step, first_half, counted, faulted, content-left, LeftAfter}
 use Rattle.aw_disk.specs.Moments.{Elapsed}
 
 -- one write more
@@ -105,7 +105,7 @@ Elapsed-nothing disk during here = record {
 -- time and content after a write, by its answer
 module _ {T E : Type 0} (old new : MemDiskState) (offset : ℕ) (bytes : List ℕ) where
   pub write-time : (result : Result T E) → OnOk result (new ≡ counted (with_step old (Write offset bytes))) →
-      OnErr result ((new ≡ faulted old) ⊎ (new ≡ faulted (with_step old (Write offset (take (length bytes / 2) bytes))))) →
+      OnErr result ((new ≡ faulted old) ⊎ (new ≡ faulted (with_step old (Write offset (first_half bytes))))) →
       Elapsed (length old.steps) (length new.steps) (left_at old) (left_at new) (TornFrom offset (length bytes) (left_at old (length old.steps)))
   write-time (Ok value) ok err =
       subst (λ (disk : MemDiskState). Elapsed (length old.steps) (length disk.steps) (left_at old) (left_at disk) (TornFrom offset (length bytes) (left_at old (length old.steps))))
@@ -115,7 +115,7 @@ module _ {T E : Type 0} (old new : MemDiskState) (offset : ℕ) (bytes : List �
       (sym same) (Elapsed-nothing old (TornFrom offset (length bytes) (left_at old (length old.steps)))
       (λ image left. record { old = image; was = left; torn = Torn-same offset (length bytes) image })))
       (λ front. subst (λ (disk : MemDiskState). Elapsed (length old.steps) (length disk.steps) (left_at old) (left_at disk) (TornFrom offset (length bytes) (left_at old (length old.steps))))
-      (sym front) (Elapsed-write old offset (length bytes) (take (length bytes / 2) bytes) (omega (arith, length-take (length bytes / 2) bytes))))
+      (sym front) (Elapsed-write old offset (length bytes) (first_half bytes) (omega (arith, length-take ((length bytes + 1) / 2) bytes))))
       err
 
   pub write-content : (result : Result T E) → OnOk result (new ≡ counted (with_step old (Write offset bytes))) → OnOk result (offset + length bytes ≤ length_limit) →
@@ -129,16 +129,17 @@ module _ {T E : Type 0} (old new : MemDiskState) (offset : ℕ) (bytes : List �
   write-content (Err failed) ok within = tt
 
   pub write-torn : (result : Result T E) →
-      OnErr result ((new ≡ faulted old) ⊎ (new ≡ faulted (with_step old (Write offset (take (length bytes / 2) bytes))))) →
+      OnErr result ((new ≡ faulted old) ⊎ (new ≡ faulted (with_step old (Write offset (first_half bytes))))) →
       OnErr result (HalfWritten offset (length bytes) (Some (content_of old)) (Some (content_of new)))
   write-torn (Ok value) err = tt
   write-torn (Err failed) err = ⊎_elim
-      (λ same. record { where_told = subst (λ now. Torn offset (length bytes) (content_of old) now) (sym (ap content_of same)) (Torn-same offset (length bytes) (content_of old)) })
+      (λ same. record { where_told = subst (λ now. Torn offset (length bytes) (content_of old) now) (sym (ap content_of same)) (Torn-same offset (length bytes) (content_of old)); goes_on = λ told. told })
       (λ front. record {
         where_told = subst (λ now. Torn offset (length bytes) (content_of old) now)
-            (sym (ap content_of front ∙ content_after-write old.start old.steps offset (take (length bytes / 2) bytes)))
-            (Torn-wider offset (length (take (length bytes / 2) bytes)) (length bytes) (content_of old) (overwritten (content_of old) offset (take (length bytes / 2) bytes))
-            (omega (arith, length-take (length bytes / 2) bytes)) (Torn-overwritten (content_of old) offset (take (length bytes / 2) bytes)));
+            (sym (ap content_of front ∙ content_after-write old.start old.steps offset (first_half bytes)))
+            (Torn-wider offset (length (first_half bytes)) (length bytes) (content_of old) (overwritten (content_of old) offset (first_half bytes))
+            (omega (arith, length-take ((length bytes + 1) / 2) bytes)) (Torn-overwritten (content_of old) offset (first_half bytes)));
+        goes_on = λ told. told;
       })
       err
 

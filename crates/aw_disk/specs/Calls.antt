@@ -1,6 +1,6 @@
 -- What the calls of a disk answer and do to its content. The content may be told, as `Some`, or not.
 -- A disk that stopped telling doesn't tell again.
-use Rattle.std.specs.Prelude.{◌≡◌, ℕ, ◌-◌, ◌+◌, ◌^◌, ◌≤◌, min, List, length, take, drop, Option, None, Some}
+use Rattle.std.specs.Prelude.{◌≡◌, ℕ, ◌-◌, ◌+◌, ◌^◌, ◌≤◌, min, List, length, take, drop, Option, None, Some, IsSome}
 use Rattle.aw_disk.specs.Images.{overwritten, Torn}
 
 -- the greatest length of a disk that tells its content
@@ -27,6 +27,8 @@ pub record Wrote (offset : ℕ) (bytes before now : List ℕ) : Type 0 where
 pub record Written (offset : ℕ) (bytes : List ℕ) (before now : Option (List ℕ)) : Type 0 where
   pub where_told : BothTold (Wrote offset bytes) before now
 
--- a write that failed: any bytes in the range and past the old end, and all others stayed
+-- a write that failed: any bytes in the range and past the old end, and all others stayed. A disk
+-- that tells its content goes on telling it
 pub record HalfWritten (offset count : ℕ) (before now : Option (List ℕ)) : Type 0 where
   pub where_told : BothTold (Torn offset count) before now
+  pub goes_on : IsSome before → IsSome now

@@ -1,6 +1,6 @@
 -- A disk in memory that keeps all its moments: its bytes at first, and each step since. A write may
 -- tear until a sync, and moment n lies behind n steps.
-use Rattle.std.specs.Prelude.{◌≡◌, ℕ, List, [], ◌∷◌, ◌++◌, length, take, Some, refl}
+use Rattle.std.specs.Prelude.{◌≡◌, ℕ, ◌+◌, ◌/◌, List, [], ◌∷◌, ◌++◌, length, take, Some, refl}
 use Rattle.std.proofs.Common.{arith, sym, subst}
 use Rattle.std.proofs.lemmas.List.{take_all}
 use Rattle.aw_disk.specs.declared.step.Step.{Step}
@@ -27,6 +27,10 @@ faulted disk = record disk { calls = next_count disk.calls; faults = next_count 
 -- a disk after one step more
 abbrev pub with_step : MemDiskState → Step → MemDiskState
 with_step disk step = record disk { steps = disk.steps ++ step ∷ [] }
+
+-- the first half of these bytes, and of an odd number the greater one, so that one byte is the byte
+abbrev pub first_half : List ℕ → List ℕ
+first_half bytes = take ((length bytes + 1) / 2) bytes
 
 -- the content after these steps
 abbrev pub content_after : List ℕ → List Step → List ℕ

@@ -1,7 +1,7 @@
-ghost use Rattle.std.specs.Prelude.{◌≡◌, ◌⊎◌, ◌<◌, ◌≤◌, ◌+◌, ◌/◌, ◌↔◌, Some, [], length, take, Contains, IfOk, OnOk, OnErr, IsErr};
+ghost use Rattle.std.specs.Prelude.{◌≡◌, ◌⊎◌, ◌<◌, ◌≤◌, ◌+◌, ◌↔◌, Some, [], length, take, Contains, IfOk, OnOk, OnErr, IsErr};
 ghost use Rattle.aw_disk.specs.Calls.{Reads, length_limit};
 ghost use Rattle.aw_disk.specs.Held.{started};
-ghost use Rattle.aw_disk.specs.MemDisk.{content_of, left_at, counted, faulted, with_step, is_content-left};
+ghost use Rattle.aw_disk.specs.MemDisk.{content_of, left_at, counted, faulted, with_step, first_half, is_content-left};
 ghost use Rattle.aw_disk.specs.Picked.{IsPicked};
 ghost use Rattle.aw_disk.specs.declared.step.Step.TheVariants.{Write, Sync};
 ghost use Rattle.aw_lists.specs.Faults.{Rose};
@@ -183,17 +183,17 @@ impl Disk for MemDisk {
         requires { offset ≤ length (content_of self.old) }
         ensures within { OnOk result (offset + length bytes.now ≤ length_limit) }
 
-        // A listed call writes the first half, where it finds the memory, and fails.
+        // A listed call writes the first half, rounded up, where it finds the memory, and fails.
         ensures later { self.old.faults ≤ self.new.faults }
         ensures cause { IsErr result → Rose self.old.faults self.new.faults }
         ensures fails { Contains self.old.failing self.old.calls → IsErr result }
         ensures ok { OnOk result (self.new ≡ counted (with_step self.old (Write offset bytes.now))) }
-        ensures err { OnErr result ((self.new ≡ faulted self.old) ⊎ (self.new ≡ faulted (with_step self.old (Write offset (take (length bytes.now / 2) bytes.now))))) }
+        ensures err { OnErr result ((self.new ≡ faulted self.old) ⊎ (self.new ≡ faulted (with_step self.old (Write offset (first_half bytes.now))))) }
         ensures unlisted { OnErr result (Contains self.old.failing self.old.calls ⊎ (self.new ≡ faulted self.old)) }
     {
         let is_past = offset > Self::LIMIT || bytes.len() as u64 > Self::LIMIT - offset;
         if self.calls.next_fails() {
-            let _ = self.place(offset, &bytes[..bytes.len() / 2]);
+            let _ = self.place(offset, &bytes[..bytes.len().div_ceil(2)]);
             self.calls.count_fault();
             return Err(Failed);
         }

@@ -14,11 +14,11 @@ fn fails_at_each_second_call<D: Disk>(disk: &mut D) -> bool {
     let mut into = [0u8; 4];
     let lengths = (disk.len() == Ok(4)) & (disk.len() == Err(Failed));
     let reads = (disk.read_at(1, &mut into) == Ok(3)) & (disk.read_at(1, &mut into) == Err(Failed));
-    let writes = (disk.write_at(0, b"XY") == Ok(())) & (disk.write_at(0, b"QR") == Err(Failed));
+    let writes = (disk.write_at(0, b"XY") == Ok(())) & (disk.write_at(0, b"Q") == Err(Failed));
     lengths & reads & writes & (disk.sync() == Ok(())) & (disk.sync() == Err(Failed))
 }
 
-// A disk that is lent makes the same calls. A listed write leaves half its bytes.
+// A disk that is lent makes the same calls. A listed write of one byte leaves it.
 #[test]
 fn listed_calls_fail(rt: HostRuntime) -> Result<(), Fail> {
     let mut disk = disk_of(rt.alloc(), b"abcd", &[1, 3, 5, 7])?;
