@@ -9,5 +9,5 @@ mod list;
 
 pub use coord::Coord;
 pub use failing::FailingCalls;
-pub use laws::packing_keeps_order;
+pub use laws::{counts_rise, packing_keeps_order};
 pub use list::List;

@@ -11,6 +11,7 @@ mod quoted;
 mod statement;
 #[cfg(test)]
 mod tests;
+mod threads;
 mod token;
 mod word;
 
