@@ -261,7 +261,7 @@ module _ (definitions : List Def) (numbers : ℕ → ℕ) (firsts : ℕ → Body
   -- one object, by whether it is owned and what is staged of it
   committed-one : DifferenceGivesNewer → (history after : List (List Change)) (owners : Owners) (who object : ℕ) (given : List ℕ) (gives : ℕ → Option Change) → Grows these history after gives
       → (kind : DefKind) (number : ℕ) (base staged private : Body) (owned leaving : Bool) (patch : Option BodyPatch) → difference base staged ≡ patch
-      → gives object ≡ cond owned (option_map (change_at object) patch) None → names given object ≡ leaving → number < 18446744073709551615
+      → gives object ≡ cond owned (option_map (change_at object) patch) None → names given object ≡ leaving → (owned ≡ true → is_some patch ≡ true → number < 18446744073709551615)
       → IsOf kind base → IsOf kind staged
       → ObjectFits these history owners who object (view_of kind number base staged private owned leaving)
       → ObjectFits these after (given_up owners who given) who object (rule.after_commit (view_of kind number base staged private owned leaving))
@@ -284,6 +284,7 @@ module _ (definitions : List Def) (numbers : ℕ → ℕ) (firsts : ℕ → Body
       let next = view_of kind (min (number + 1) 18446744073709551615) staged staged private true leaving in
       let latest = fit.latest refl in
       let grew = grow.number object (change_at object patch) gave in
+      let below : number < 18446744073709551615 = rise refl refl in
       let number_is : min (number + 1) 18446744073709551615 ≡ latest_number these after object = omega arith in
       let was : base ≡ latest_body these history object = latest-is these history object number base fit.base latest in
       let body_is : staged ≡ latest_body these after object =
@@ -321,5 +322,5 @@ module _ (definitions : List Def) (numbers : ℕ → ℕ) (firsts : ℕ → Body
       found.kind found.number found.base found.staged found.private found.owned found.leaving (rule.staged_patch found) refl
       (change-found view at ∙ ap (option_and_then (rule.change_of at)) is)
       (names-numbers (λ (one : ObjectView). one.leaving) 0 view.objects at at (omega arith) ∙ ap (passes (λ (one : ObjectView). one.leaving)) is)
-      (some-seen (λ one. one.number < 18446744073709551615) (object_of view at) found is (rise at))
+      (some-seen (λ one. one.owned ≡ true → rule.is_staged one ≡ true → one.number < 18446744073709551615) (object_of view at) found is (rise at))
       whole.base whole.staged fit) fits

@@ -84,9 +84,10 @@ grown history (change ∷ changes) = history ++ (change ∷ changes) ∷ []
 abbrev pub leaving_objects : ViewState → List ℕ
 leaving_objects view = numbers_from (λ (found : ObjectView). found.leaving) 0 view.objects
 
--- a number that can rise
+-- the number of each object that a commit changes can rise
 abbrev pub CanRise : ViewState → Type 0
-CanRise view = (object : ℕ) → IfSome (object_of view object) (λ found. found.number < 18446744073709551615)
+CanRise view =
+    (object : ℕ) → IfSome (object_of view object) (λ found. found.owned ≡ true → rule.is_staged found ≡ true → found.number < 18446744073709551615)
 
 -- COMMIT that was granted: its changes are added, and what was leaving is given up
 abbrev pub CommittingFits : Type 0

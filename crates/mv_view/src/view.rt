@@ -226,10 +226,11 @@ impl View {
         self.owned.as_slice()
     }
 
-    /// The private body of a kept object.
+    /// The private body of a kept object, which is of the form of its definition.
     pub fn body(&self, object: u16) -> &Body
         requires { IsSome (spec.object_of self.now object) }
-        ensures { rule.private_of self.now object ≡ Some result.now }
+        ensures body { rule.private_of self.now object ≡ Some result.now }
+        ensures seen { IsSomeAnd (spec.object_of self.now object) spec.IsSeen }
     {
         self.kept(object).body()
     }

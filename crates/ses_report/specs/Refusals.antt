@@ -8,6 +8,10 @@ use Rattle.ses_report.specs.declared.refusal.Refusal.{Refusal}
 abbrev pub no_form : Refusal
 no_form = record { number = 1; line = 0; detail = Column 1 }
 
+-- 14: the record of a commit would have too many bytes
+abbrev pub too_large : Refusal
+too_large = record { number = 14; line = 0; detail = Nothing }
+
 -- 15: the session isn't attached
 abbrev pub not_attached : Refusal
 not_attached = record { number = 15; line = 0; detail = Nothing }

@@ -49,6 +49,13 @@ impl Refusal {
         Refusal::of(1, Detail::Column(1))
     }
 
+    /// Refusal 14: the record of a commit would have more than 67,108,864 bytes.
+    pub fn too_large() -> Refusal
+        ensures { result ≡ spec.too_large }
+    {
+        Refusal::of(14, Detail::Nothing)
+    }
+
     /// Refusal 15: the session isn't attached.
     pub fn not_attached() -> Refusal
         ensures { result ≡ spec.not_attached }
