@@ -1,6 +1,5 @@
 mod Casts
 mod CellLaws
-pub mod NameTexts
 mod NumberLaws
 mod Numerals
 mod Padding
@@ -12,3 +11,4 @@ mod Rounding
 mod TableLaws
 mod Utf8
 mod Worked
+pub mod callers

@@ -5,7 +5,7 @@ use Rattle.aw_journal.specs.Loads.{Explains, IsAnswered, HoldsSome}
 use Rattle.aw_journal.specs.declared.fault.LoadFault.{LoadFault}
 use Rattle.aw_journal.specs.declared.fault.LoadFault.TheVariants.{Unformatted, Damaged, DiskFault, NoMemory}
 use Rattle.aw_journal.proofs.CallerLemmas.{IsOne, IsWhy, loaded, refused}
-use Rattle.aw_journal.proofs.Unique.{reads_one_way}
+use Rattle.aw_journal.proofs.callers.Unique.{reads_one_way}
 
 is_one : (image : List ℕ) → IsOne CutShort HoldsSome image
 is_one image =

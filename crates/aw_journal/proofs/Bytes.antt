@@ -5,7 +5,7 @@ use Rattle.aw_disk.specs.Images.{overwritten}
 use Rattle.aw_journal.specs.Bytes.{Appended, Repaired}
 use Rattle.aw_journal.specs.Format.{head, frames, size_bytes}
 use Rattle.aw_journal.specs.Journal.{AtRest, HalfOpen}
-use Rattle.aw_journal.proofs.Frames.{frames-push}
+use Rattle.aw_journal.proofs.callers.Frames.{frames-push}
 use Rattle.aw_journal.proofs.Torn.{written_behind, written_at, written_from}
 
 module _ (settled : List (List ℕ)) (payload frame : List ℕ) (gate : ℕ) (is : frame ≡ size_bytes (length payload) ++ payload ++ 0 ∷ []) where

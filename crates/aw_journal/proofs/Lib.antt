@@ -1,12 +1,10 @@
-pub mod Frames
 pub mod Steps
 pub mod Torn
 pub mod Standing
 pub mod Reading
 pub mod Loading
-pub mod Unique
-pub mod Each
 pub mod Bytes
 pub mod Answering
 pub mod CallerLemmas
 mod Worked
+pub mod callers

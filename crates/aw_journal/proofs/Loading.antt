@@ -10,7 +10,7 @@ use Rattle.aw_journal.specs.declared.gate.Gate.{Gate}
 use Rattle.aw_journal.specs.declared.gate.Gate.TheVariants as gate
 use Rattle.aw_journal.specs.declared.fault.LoadFault.{LoadFault}
 use Rattle.aw_journal.specs.declared.fault.LoadFault.TheVariants as fault
-use Rattle.aw_journal.proofs.Frames.{length-size_bytes, size-read, frames-push}
+use Rattle.aw_journal.proofs.callers.Frames.{length-size_bytes, size-read, frames-push}
 use Rattle.aw_journal.proofs.Reading.{IfSome_both}
 
 pub placed-push : (offset : ℕ) (payloads : List (List ℕ)) (payload : List ℕ) →

@@ -6,7 +6,7 @@ use Rattle.aw_journal.specs.declared.doubt.Doubt.{Doubt}
 use Rattle.aw_journal.specs.declared.doubt.Doubt.TheVariants.{Settled, Closed, Opening}
 use denote.Enum.Bare.{sameb}
 use Rattle.aw_journal.specs.contracts.doubt.Doubt.{the_type}
-use Rattle.aw_journal.proofs.Frames.{HalfOpen-left}
+use Rattle.aw_journal.proofs.callers.Frames.{HalfOpen-left}
 
 pub Stands-left : (doubt : Doubt) (settled : List (List ℕ)) (frame : List ℕ) (gate : ℕ) (image : List ℕ) →
     Stands doubt settled frame gate image → Left settled (doubtful doubt frame) image

@@ -4,7 +4,7 @@ use Rattle.aw_disk.specs.Calls.{Written}
 use Rattle.aw_disk.specs.Images.{overwritten, Torn, TornFrom}
 use Rattle.aw_journal.specs.Format.{head, frames, size_bytes}
 use Rattle.aw_journal.specs.Journal.{AtRest, HalfOpen}
-use Rattle.aw_journal.proofs.Frames.{length-size_bytes, length-frames-push, Holds-open}
+use Rattle.aw_journal.proofs.callers.Frames.{length-size_bytes, length-frames-push, Holds-open}
 use Rattle.aw_journal.proofs.Torn.{torn_behind, torn_at, written_behind, written_at}
 
 module _ (settled : List (List ℕ)) (gate : ℕ) (old : List ℕ) where

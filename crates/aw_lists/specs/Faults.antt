@@ -12,5 +12,5 @@ Rose before now = next_count before ≤ now
 -- below its last value a count rises by one; at its last value it stays
 abbrev pub CountsRise : Type 0
 CountsRise = (count : ℕ) →
-  (count < 2 ^ 64 - 1 → next_count count ≡ count + 1) ×
-  (2 ^ 64 - 1 ≤ count → next_count count ≡ 2 ^ 64 - 1)
+    (count < 2 ^ 64 - 1 → next_count count ≡ count + 1) ×
+    (2 ^ 64 - 1 ≤ count → next_count count ≡ 2 ^ 64 - 1)

@@ -3,7 +3,7 @@ use Rattle.std.proofs.Common.{ℕ, zero, suc, ◌≡◌, ◌+◌, ◌<◌, ◌�
 use Rattle.std.proofs.lemmas.List.{length-map, take_more, get_or-map, length-take}
 use Rattle.aw_cell.specs.declared.cell.Cell.{Cell}
 use Rattle.aw_journal.specs.Format.{frames, size_bytes, placed}
-use Rattle.aw_journal.proofs.Frames.{length-size_bytes}
+use Rattle.aw_journal.proofs.callers.Frames.{length-size_bytes}
 use Rattle.aw_journal.specs.declared.payload.Payload.{Payload}
 use Rattle.mv_core.specs.declared.object.Object.{Object}
 use Rattle.aw_store.specs.Recorded.{record_from, AreSpellings}

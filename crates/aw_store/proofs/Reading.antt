@@ -10,8 +10,8 @@ use Rattle.aw_codec.specs.Records.{spelled, IsRecord, are_distinct}
 use Rattle.aw_codec.proofs.SpellingLaws.{spelling_or_fault}
 use Rattle.aw_journal.specs.Format.{head, frames, size_bytes, Holds, IsUnformatted}
 use Rattle.aw_journal.specs.Laws.{ReadsOneWay}
-use Rattle.aw_journal.proofs.Each.{reads_some_way}
-use Rattle.aw_journal.proofs.Unique.{reads_one_way}
+use Rattle.aw_journal.proofs.callers.Each.{reads_some_way}
+use Rattle.aw_journal.proofs.callers.Unique.{reads_one_way}
 use Rattle.aw_store.specs.Replay.{is_commit_among, can_replay}
 use Rattle.aw_store.specs.Images.{AreRecords, HoldsRecords, IsDamaged}
 use Rattle.aw_store.specs.Recorded.{record_from}

@@ -3,7 +3,7 @@ use Rattle.std.proofs.Common.{◌≡◌, ℕ, zero, suc, ◌+◌, ◌-◌, ◌*�
 use Rattle.std.proofs.Math.Nat.{pow-suc, pow-le-pow_right}
 use Rattle.std.proofs.Math.ListN.{length-set}
 use Rattle.aw_lists.specs.Coord.{packed, AreSlots}
-use Rattle.aw_lists.proofs.PackingOrder.{packs_in_order}
+use Rattle.aw_lists.proofs.callers.PackingOrder.{packs_in_order}
 use Rattle.aw_var.specs.inside.Unpacking.{unpacked}
 use Rattle.aw_var.proofs.Unpacking.{AreSlots-unpacked, length-unpacked, packed-unpacked}
 

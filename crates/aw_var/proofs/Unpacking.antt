@@ -13,8 +13,8 @@ use Rattle.aw_cell.specs.declared.cell.Cell.TheVariants.{Na}
 use Rattle.aw_cell.specs.Cell.{same_cell}
 use Rattle.aw_page.specs.Fitting.{is_na}
 use Rattle.aw_lists.specs.Coord.{packed, AreSlots}
-use Rattle.aw_lists.proofs.Packing.{packed-below}
-use Rattle.aw_lists.proofs.PackingOrder.{packs_in_order}
+use Rattle.aw_lists.proofs.callers.Packing.{packed-below}
+use Rattle.aw_lists.proofs.callers.PackingOrder.{packs_in_order}
 use Rattle.aw_var.specs.CellMap.{Cells, by_slots, without_by, cell_at, set_at}
 use Rattle.aw_var.specs.CellPatch.{composed_by, differ_by, taken_away_by, difference}
 use Rattle.std.specs.declared.alloc.AllocError.{AllocError}

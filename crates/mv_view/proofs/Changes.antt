@@ -1,5 +1,5 @@
 -- What a commit of a view has.
-use Rattle.std.specs.Prelude.{ℕ, zero, suc, ◌≡◌, ◌≢◌, ◌==◌, ◌+◌, ◌<◌, ◌≤◌, ◌||◌, Bool, true, false, cond, min, List, [], ◌∷◌, map, find, Option, Some, None, IfSome, MatchOption, is_some, slice_get}
+use Rattle.std.specs.Prelude.{ℕ, suc, ◌≡◌, ◌==◌, ◌+◌, ◌≤◌, Bool, true, false, cond, min, List, [], ◌∷◌, map, Option, Some, None, IfSome, MatchOption, is_some, slice_get}
 use Rattle.std.specs.Option.{option_map, option_and_then, IsSomeAnd}
 use Rattle.std.specs.List.{cons_option}
 use Rattle.std.proofs.Common.{◌∙◌, ap, sym, refl, subst, arith, true≢false}
@@ -7,25 +7,23 @@ use Rattle.std.proofs.lemmas.Option.{slice_get-map}
 use Rattle.aw_schema.specs.declared.definition.Def.{Def}
 use Rattle.aw_schema.specs.declared.definition.DefKind.{DefKind}
 use Rattle.aw_schema.specs.Definitions.{is_kept}
-use Rattle.aw_var.specs.CellMap.{Cells}
 use Rattle.aw_body.specs.declared.body.Body.{Body}
 use Rattle.aw_body.specs.declared.change.Change.{Change}
 use Rattle.aw_body.specs.declared.patch.BodyPatch.{BodyPatch}
-use Rattle.aw_body.specs.BodyPatches.{applied, difference}
 use Rattle.aw_body.specs.Fitting.{fits}
 use Rattle.aw_body.specs.Laws.{DifferenceGivesNewer, MakesNewer}
-use Rattle.aw_body.specs.Generations.{Bodies, change_of, latest_body}
+use Rattle.aw_body.specs.Generations.{change_of, latest_body}
 use Rattle.aw_body.specs.KeptBodies.{bodies_from, fits_definition}
 use Rattle.aw_body.specs.Owners.{Owners, owner_of}
 use Rattle.mv_view.specs.Each.{object_in, each_from, names, gathered_from, listed, only}
-use Rattle.mv_view.specs.ViewState.{ObjectView, ViewState, object_of, kind_of, kept_kind, kept_kinds, IsOf, IsSeen, AreSeen}
+use Rattle.mv_view.specs.ViewState.{ObjectView, ViewState, object_of, kind_of, kept_kind, kept_kinds, IsSeen, AreSeen}
 use Rattle.mv_view.specs.Rules as rule
 use Rattle.mv_view.specs.Recording.{AreRecordable, CanBeRecorded}
 use Rattle.mv_view.specs.Fit.{ObjectFits, Fits}
 use Rattle.mv_view.specs.Laws.{MayCommit, ChangeTells}
 use Rattle.mv_view.proofs.Each.{object_in-each}
 use Rattle.mv_view.proofs.Forms.{alike, difference-itself}
-use Rattle.mv_view.proofs.Committing.{latest-is, change-found, some-seen}
+use Rattle.mv_view.proofs.Committing.{latest-is, change-found}
 use Rattle.mv_view.proofs.Recording.{fits-staged}
 
 -- ---- what is given of objects that a change leaves as they are

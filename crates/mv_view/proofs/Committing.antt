@@ -1,6 +1,6 @@
 -- Commits, releases, attaching and what others do keep that a view fits.
-use Rattle.std.specs.Prelude.{ℕ, zero, suc, ◌≡◌, ◌≢◌, ◌↔◌, ◌==◌, ◌+◌, ◌<◌, ◌≤◌, ◌&&◌, ◌||◌, ◌++◌, Bool, true, false, not, cond, min, List, [], ◌∷◌, map, filter, length, find, Option, Some, None, IfSome, MatchOption, is_some, slice_get}
-use Rattle.std.specs.Option.{option_map, option_and_then, IsSomeAnd}
+use Rattle.std.specs.Prelude.{ℕ, zero, suc, ◌≡◌, ◌≢◌, ◌↔◌, ◌==◌, ◌+◌, ◌<◌, ◌&&◌, ◌||◌, Bool, true, false, not, cond, min, List, [], ◌∷◌, map, filter, Option, Some, None, IfSome, MatchOption, is_some, slice_get}
+use Rattle.std.specs.Option.{option_map, option_and_then}
 use Rattle.std.proofs.Common.{◌∙◌, ap, sym, refl, subst, arith, eqb-true, eq-eqb, true≢false}
 use Rattle.aw_schema.specs.declared.definition.Def.{Def}
 use Rattle.aw_schema.specs.declared.definition.DefKind.{DefKind}
@@ -12,12 +12,12 @@ use Rattle.aw_body.specs.declared.change.Fresh.{Fresh}
 use Rattle.aw_body.specs.declared.patch.BodyPatch.{BodyPatch}
 use Rattle.aw_body.specs.BodyPatches.{applied, difference}
 use Rattle.aw_body.specs.Laws.{DifferenceGivesNewer, MakesNewer}
-use Rattle.aw_body.specs.Generations.{Bodies, change_of, changes_of, generations, IsGeneration, latest_number, latest_body}
+use Rattle.aw_body.specs.Generations.{Bodies, change_of, generations, IsGeneration, latest_number, latest_body}
 use Rattle.aw_body.specs.GenerationLaws.{IsGeneration-latest, IsGeneration-append, latest_number-changed, latest_body-changed, latest_number-unchanged}
 use Rattle.aw_body.specs.KeptBodies.{bodies_from}
 use Rattle.aw_body.specs.Owners.{Owners, owner_of, is_own, given_up}
 use Rattle.aw_body.specs.OwnerLaws.{owner_of-given_up}
-use Rattle.mv_view.specs.Each.{object_in, names, numbers_from, passes, listed}
+use Rattle.mv_view.specs.Each.{object_in, names, passes, listed}
 use Rattle.mv_view.specs.ViewState.{ObjectView, ViewState, object_of, kind_of, kept_kind, kept_kinds, kept_objects, IsOf, IsSeen, AreSeen, AreOwned}
 use Rattle.mv_view.specs.Rules as rule
 use Rattle.mv_view.specs.Fit.{ObjectFits, Fits}

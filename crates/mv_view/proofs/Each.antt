@@ -1,8 +1,8 @@
 -- What becomes of objects that are changed by their numbers.
-use Rattle.std.specs.Prelude.{ℕ, ◌≡◌, ◌≢◌, ◌<◌, ◌≤◌, ◌+◌, ◌==◌, ◌||◌, ◌++◌, zero, suc, Bool, true, false, cond, List, [], ◌∷◌, length, filter, filter_map, insert, nat_lt, take, drop, find, Option, Some, None, IfSome, slice_get, slice_set, refl}
+use Rattle.std.specs.Prelude.{ℕ, ◌≡◌, ◌≢◌, ◌<◌, ◌≤◌, ◌+◌, ◌==◌, ◌||◌, zero, suc, Bool, true, false, cond, List, [], ◌∷◌, length, filter, filter_map, insert, nat_lt, find, Option, Some, None, IfSome, slice_set, refl}
 use Rattle.std.specs.Option.{option_map, option_and_then}
-use Rattle.std.specs.List.{list_any, prefix_len, cons_option}
-use Rattle.std.proofs.Common.{◌∙◌, ap, sym, subst, arith, eqb-true, eq-eqb, ne_eqb}
+use Rattle.std.specs.List.{prefix_len, cons_option}
+use Rattle.std.proofs.Common.{◌∙◌, ap, sym, subst, arith, eq-eqb, ne_eqb}
 use Rattle.std.proofs.lemmas.Bool.{lt-ltb, le-ltb}
 use Rattle.mv_view.specs.Each.{object_in, each_from, only, names, listed, passes, numbers_from, gathered_from}
 

@@ -1,15 +1,12 @@
 -- Each call keeps that a view fits.
-use Rattle.std.specs.Prelude.{ℕ, zero, suc, ◌≡◌, ◌≢◌, ◌↔◌, ◌==◌, ◌+◌, ◌-◌, ◌<◌, ◌≤◌, ◌&&◌, ◌||◌, ◌++◌, Bool, true, false, not, cond, min, List, [], ◌∷◌, map, filter, length, fold, find, Option, Some, None, IfSome, is_some, slice_get}
-use Rattle.std.specs.Option.{option_map, option_and_then, IsSomeAnd}
-use Rattle.std.specs.List.{list_any}
+use Rattle.std.specs.Prelude.{ℕ, ◌≡◌, ◌↔◌, ◌==◌, ◌+◌, ◌≤◌, ◌||◌, ◌++◌, Bool, true, false, cond, List, [], ◌∷◌, map, length, Option, Some, None, IfSome, is_some}
+use Rattle.std.specs.Option.{option_map, IsSomeAnd}
 use Rattle.std.proofs.Common.{◌∙◌, ap, sym, refl, subst, arith, eqb-true, true≢false}
 use Rattle.std.proofs.lemmas.Option.{slice_get_within}
 use Rattle.aw_schema.specs.declared.definition.Def.{Def}
 use Rattle.aw_schema.specs.declared.definition.DefKind.{DefKind}
-use Rattle.aw_schema.specs.declared.definition.DefKind.TheVariants.{Dimension}
-use Rattle.aw_var.specs.CellMap.{Cells}
 use Rattle.aw_body.specs.declared.body.Body.{Body}
-use Rattle.aw_body.specs.declared.body.Body.TheVariants.{Dim, Set}
+use Rattle.aw_body.specs.declared.body.Body.TheVariants.{Set}
 use Rattle.aw_body.specs.declared.change.Change.{Change}
 use Rattle.aw_body.specs.declared.change.Fresh.{Fresh}
 use Rattle.aw_body.specs.Bodies.{IsBodyOf}

@@ -1,7 +1,7 @@
 -- Bodies of one definition's form.
-use Rattle.std.specs.Prelude.{ℕ, ◌≡◌, ◌==◌, Bool, true, false, List, length, IsTrue, Option, Some, None, MatchOption, is_some, not}
+use Rattle.std.specs.Prelude.{ℕ, ◌≡◌, true, false, List, length, IsTrue, Option, Some, None, MatchOption, is_some}
 use Rattle.std.specs.List.{list_all}
-use Rattle.std.proofs.Common.{◌∙◌, ap, sym, refl, subst}
+use Rattle.std.proofs.Common.{◌∙◌, sym, refl, subst}
 use Rattle.aw_cell.specs.declared.cell.Kind.{Kind}
 use Rattle.aw_cell.specs.declared.cell.Kind.TheVariants.{Slot}
 use Rattle.aw_schema.specs.declared.definition.DefKind.{DefKind}
@@ -11,9 +11,8 @@ use Rattle.aw_var.specs.Variable.{Contents}
 use Rattle.aw_body.specs.declared.body.Body.{Body}
 use Rattle.aw_body.specs.declared.body.Body.TheVariants.{Dim, Rel, Set, Var}
 use Rattle.aw_body.specs.declared.patch.BodyPatch.{BodyPatch}
-use Rattle.aw_body.specs.declared.patch.BodyPatch.TheVariants.{Cells as CellPatch}
 use Rattle.aw_body.specs.Bodies.{IsBody, IsBodyOf, AreAlike}
-use Rattle.aw_body.specs.BodyPatches.{difference, is_change_of, AreChangesOf, CanTake}
+use Rattle.aw_body.specs.BodyPatches.{difference, is_change_of, AreChangesOf}
 use Rattle.aw_body.specs.Laws.{DifferenceGivesNewer, MakesNewer}
 use Rattle.mv_view.specs.ViewState.{IsOf, IsKeyOf, AreCellsOf}
 

@@ -1,11 +1,10 @@
 -- What holds of a view's places after a change.
-use Rattle.std.specs.Prelude.{ℕ, zero, suc, ◌≡◌, ◌≤◌, ◌==◌, ◌+◌, Bool, true, false, cond, List, [], ◌∷◌, map, length, replicate, Option, Some, None, IfSome, slice_get, slice_set}
+use Rattle.std.specs.Prelude.{ℕ, zero, suc, ◌≡◌, ◌==◌, Bool, true, false, cond, List, [], ◌∷◌, map, length, replicate, Option, Some, None, IfSome, slice_set}
 use Rattle.std.specs.Option.{option_map, IsSomeAnd}
 use Rattle.std.proofs.Common.{◌∙◌, ap, sym, refl, subst, arith, eqb-true}
 use Rattle.aw_schema.specs.declared.definition.DefKind.{DefKind}
 use Rattle.aw_var.specs.CellMap.{Cells}
 use Rattle.aw_dim.specs.Values.{Values}
-use Rattle.aw_body.specs.declared.body.Body.{Body}
 use Rattle.aw_body.specs.declared.body.Body.TheVariants.{Dim, Set}
 use Rattle.aw_body.specs.declared.change.Fresh.{Fresh}
 use Rattle.aw_body.specs.declared.patch.BodyPatch.TheVariants.{Cells as CellPatch}
@@ -13,7 +12,7 @@ use Rattle.aw_body.specs.Bodies.{IsBody, IsBodyOf}
 use Rattle.aw_body.specs.BodyPatches.{applied}
 use Rattle.aw_body.proofs.CallerLemmas.{IsBodyOf-applied}
 use Rattle.mv_view.specs.Each.{object_in, each_from, only, numbers_from}
-use Rattle.mv_view.specs.ViewState.{ObjectView, IsOf, IsSeen, AreSeen, AreCellsOf, HasForm, kind_of, is_owned}
+use Rattle.mv_view.specs.ViewState.{ObjectView, IsOf, IsSeen, AreSeen, HasForm, kind_of, is_owned}
 use Rattle.mv_view.specs.Rules as rule
 use Rattle.mv_view.specs.inside.Places.{IsListed}
 use Rattle.mv_view.proofs.Each.{object_in-each, length-each, numbers-same}

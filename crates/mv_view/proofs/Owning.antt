@@ -1,8 +1,7 @@
 -- The list of the objects that are owned, after some are owned or given up.
-use Rattle.std.specs.Prelude.{ℕ, zero, suc, ◌≡◌, ◌≤◌, ◌<◌, ◌==◌, ◌+◌, ◌||◌, Bool, true, false, not, cond, List, [], ◌∷◌, length, filter, insert, nat_lt, Option, Some, None, IfSome}
+use Rattle.std.specs.Prelude.{ℕ, ◌≡◌, ◌≤◌, ◌<◌, ◌==◌, Bool, true, false, not, cond, List, length, filter, insert, nat_lt, Option, Some, None, IfSome}
 use Rattle.std.specs.List.{prefix_len}
-use Rattle.std.proofs.Common.{◌∙◌, ap, sym, refl, subst, arith, eqb-true}
-use Rattle.aw_body.specs.Laws.{DifferenceGivesNewer}
+use Rattle.std.proofs.Common.{◌∙◌, ap, sym, refl, arith, eqb-true}
 use Rattle.mv_view.specs.Each.{object_in, each_from, only, listed, names, passes, numbers_from}
 use Rattle.mv_view.specs.ViewState.{ObjectView, IsSeen, AreSeen, is_owned}
 use Rattle.mv_view.specs.Rules.{owning, giving_up, releasing, after_commit, committing, leaving_now, is_staged}

@@ -1,13 +1,12 @@
 -- What a commit of a view has fits its objects, so that it is never refused as a stranger's.
-use Rattle.std.specs.Prelude.{ℕ, suc, ◌≡◌, ◌≢◌, ◌==◌, ◌+◌, ◌<◌, ◌≤◌, ◌&&◌, Bool, true, false, not, cond, nat_le, nat_eq, IsTrue, List, [], ◌∷◌, map, length, find, Option, Some, None, IfSome, MatchOption, is_some, slice_get}
-use Rattle.std.specs.Option.{option_map, option_and_then, IsSomeAnd}
-use Rattle.std.specs.List.{list_all, cons_option}
+use Rattle.std.specs.Prelude.{ℕ, ◌≡◌, ◌==◌, ◌≤◌, ◌&&◌, Bool, true, false, not, cond, nat_eq, List, [], ◌∷◌, map, length, Option, Some, None, MatchOption}
+use Rattle.std.specs.List.{list_all}
 use Rattle.std.specs.Ordering.{is_lt}
 use Rattle.std.specs.Cmp.Lexicographic.{pointwise}
 use Rattle.std.specs.FinMap.{put, is_sorted}
 use Rattle.std.specs.FinMap.Entries.{by_order, where_key, below_all}
 use Rattle.std.specs.declared.cmp.Ordering.TheVariants.{Less, Equal, Greater}
-use Rattle.std.proofs.Common.{◌∙◌, ap, sym, refl, subst, arith, ne_eqb}
+use Rattle.std.proofs.Common.{ap, refl, subst, arith, ne_eqb}
 use Rattle.std.proofs.lemmas.Bool.{and_parts, and_from, le-leb}
 use Rattle.aw_cell.specs.declared.cell.Cell.{Cell}
 use Rattle.aw_cell.specs.declared.cell.Cell.TheVariants.{Na}
@@ -27,7 +26,7 @@ use Rattle.aw_body.specs.declared.body.Body.TheVariants.{Dim, Rel, Set, Var}
 use Rattle.aw_body.specs.declared.patch.BodyPatch.{BodyPatch}
 use Rattle.aw_body.specs.declared.patch.BodyPatch.TheVariants.{Values as ValuesPatch, Slots as SlotsPatch, Cells as CellPatch}
 use Rattle.aw_body.specs.Bodies.{IsBodyOf}
-use Rattle.aw_body.specs.BodyPatches.{difference, some_values, some_cells, is_change_of, AreChangesOf}
+use Rattle.aw_body.specs.BodyPatches.{difference, some_cells, is_change_of, AreChangesOf}
 use Rattle.aw_body.specs.Fitting.{is_recorded, is_recorded_change, rise, rise_from, are_changes, are_distinct, fits}
 use Rattle.aw_body.specs.Laws.{DifferenceGivesNewer, MakesNewer}
 use Rattle.mv_view.specs.ViewState.{IsOf}

@@ -1,14 +1,13 @@
 -- Generations that are handed over one after the other, from the last one on.
-use Rattle.std.specs.Prelude.{ℕ, zero, suc, ◌≡◌, ◌≢◌, ◌<◌, ◌==◌, ◌+◌, ◌++◌, Bool, true, false, cond, List, [], ◌∷◌, map, length, replicate, find, Option, Some, None, IfSome, slice_get, slice_set}
+use Rattle.std.specs.Prelude.{ℕ, zero, suc, ◌≡◌, ◌<◌, ◌==◌, ◌+◌, ◌++◌, Bool, true, false, cond, List, [], ◌∷◌, length, replicate, Option, Some, None, IfSome, slice_get, slice_set}
 use Rattle.std.specs.Option.{option_map, IsSomeAnd}
-use Rattle.std.proofs.Common.{◌∙◌, ap, sym, refl, subst, arith, eq-eqb, ne_eqb}
+use Rattle.std.proofs.Common.{◌∙◌, ap, sym, refl, arith, eq-eqb, ne_eqb}
 use Rattle.aw_schema.specs.declared.definition.Def.{Def}
 use Rattle.aw_schema.specs.declared.definition.DefKind.{DefKind}
 use Rattle.aw_schema.specs.Definitions.{is_kept}
 use Rattle.aw_body.specs.declared.change.Fresh.{Fresh}
-use Rattle.aw_body.specs.Bodies.{IsBodyOf}
 use Rattle.mv_view.specs.Each.{object_in, each_from, only, numbers_from}
-use Rattle.mv_view.specs.ViewState.{ObjectView, is_owned, HasForm, HaveForms, kept_kind, kept_kinds}
+use Rattle.mv_view.specs.ViewState.{ObjectView, is_owned, HasForm, HaveForms, kept_kinds}
 use Rattle.mv_view.specs.Rules.{latest_of, renewed, with_latest, seen, seen_from}
 use Rattle.mv_view.proofs.Each.{each-each, each-same}
 

@@ -1,6 +1,6 @@
 -- When two bodies are the same.
-use Rattle.std.specs.Prelude.{ℕ, ◌≡◌, Bool, true}
-use Rattle.std.proofs.Common.{◌∙◌, ap, sym, refl}
+use Rattle.std.specs.Prelude.{◌≡◌, Bool, true}
+use Rattle.std.proofs.Common.{◌∙◌, ap, sym}
 use Rattle.aw_dim.specs.Values.{Values}
 use Rattle.aw_dim.specs.SameValues.{same_values, same_values-Decides}
 use Rattle.aw_var.specs.Variable.{Contents}

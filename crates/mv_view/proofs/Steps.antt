@@ -1,5 +1,5 @@
 -- Steps over lists of objects: what they keep, and one after the other.
-use Rattle.std.specs.Prelude.{ℕ, ◌≡◌, ◌==◌, ◌+◌, Bool, true, false, cond, min, List, [], ◌∷◌, Option, Some, None, IfSome, is_some}
+use Rattle.std.specs.Prelude.{ℕ, ◌≡◌, ◌==◌, ◌+◌, Bool, true, false, cond, min, List, ◌∷◌, Option, Some, None, IfSome, is_some}
 use Rattle.std.specs.Option.{option_map}
 use Rattle.std.proofs.Common.{◌∙◌, ap, sym, refl, subst, arith}
 use Rattle.aw_schema.specs.declared.definition.DefKind.{DefKind}
@@ -7,7 +7,7 @@ use Rattle.aw_body.specs.declared.body.Body.{Body}
 use Rattle.aw_body.specs.BodyPatches.{difference}
 use Rattle.aw_body.specs.Laws.{DifferenceGivesNewer}
 use Rattle.mv_view.specs.Each.{object_in, each_from, only, listed, names}
-use Rattle.mv_view.specs.ViewState.{ObjectView, IsOf, IsSeen, AreSeen}
+use Rattle.mv_view.specs.ViewState.{ObjectView, IsSeen, AreSeen}
 use Rattle.mv_view.specs.Rules.{is_staged, giving_up, releasing, committing, leaving_now, after_commit}
 use Rattle.mv_view.specs.declared.kept.Step.{Step}
 use Rattle.mv_view.specs.declared.kept.Step.TheVariants.{Update, Revert, Own, Release, Commit}

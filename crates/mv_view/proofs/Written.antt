@@ -1,13 +1,13 @@
 -- What is read of cells after some are written.
-use Rattle.std.specs.Prelude.{ℕ, ◌≡◌, ◌≢◌, ◌==◌, ◌+◌, Bool as Truth, true, false, not, cond, List, [], ◌∷◌, Option, Some, None, unwrap_or}
+use Rattle.std.specs.Prelude.{ℕ, ◌≡◌, ◌≢◌, Bool as Truth, true, false, not, cond, List, [], ◌∷◌, Option, Some, None, unwrap_or}
 use Rattle.std.specs.Option.{option_map, IsSomeAnd}
-use Rattle.std.specs.Ordering.{nat_cmp, eq_by_cmp}
+use Rattle.std.specs.Ordering.{eq_by_cmp}
 use Rattle.std.specs.Cmp.{Equal-is, both_ways, tied_itself}
 use Rattle.std.specs.Cmp.Lexicographic.{nat_list_cmp_total}
 use Rattle.std.specs.FinMap.{find, put, nat_cmp-IsAntisymmetric, slice_cmp-IsAntisymmetric}
 use Rattle.std.specs.FinMap.Entries.{where_key, find-put, find-where_key}
 use Rattle.std.specs.declared.cmp.Ordering.TheVariants.{Equal}
-use Rattle.std.proofs.Common.{◌∙◌, ap, sym, refl, subst, arith, eq-eqb}
+use Rattle.std.proofs.Common.{◌∙◌, ap, sym, refl, subst, arith}
 use Rattle.aw_cell.specs.declared.cell.Cell.{Cell}
 use Rattle.aw_cell.specs.declared.cell.Cell.TheVariants.{Na, Num, Int, Text, Bool, Slot}
 use Rattle.aw_schema.specs.declared.definition.DefKind.{DefKind}
@@ -20,7 +20,7 @@ use Rattle.aw_body.specs.declared.body.Body.TheVariants.{Dim, Rel, Set, Var}
 use Rattle.aw_body.specs.declared.patch.BodyPatch.TheVariants.{Cells as CellPatch}
 use Rattle.aw_body.specs.Bodies.{IsBodyOf}
 use Rattle.aw_body.specs.BodyPatches.{applied}
-use Rattle.mv_view.specs.Each.{object_in, each_from, only}
+use Rattle.mv_view.specs.Each.{only}
 use Rattle.mv_view.specs.ViewState.{ObjectView, ViewState, object_of, AreSeen, IsSeen, AreCellsOf}
 use Rattle.mv_view.specs.Rules as rule
 use Rattle.mv_view.specs.Laws.{last_at, WritesCells}

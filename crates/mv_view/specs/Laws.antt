@@ -1,5 +1,5 @@
 -- What holds of a view: every call keeps that it fits, and what a commit of it has.
-use Rattle.std.specs.Prelude.{ℕ, ◌≡◌, ◌≢◌, ◌↔◌, ◌<◌, ◌≤◌, ◌+◌, ◌++◌, Bool, true, false, not, List, [], ◌∷◌, filter, Option, Some, None, IfSome, MatchOption, cond, unwrap_or}
+use Rattle.std.specs.Prelude.{ℕ, ◌≡◌, ◌≢◌, ◌↔◌, ◌<◌, ◌≤◌, ◌+◌, ◌++◌, true, false, not, List, [], ◌∷◌, filter, Option, Some, None, IfSome, MatchOption, cond, unwrap_or}
 use Rattle.std.specs.Option.{IsSomeAnd}
 use Rattle.std.specs.Ordering.{eq_by_cmp}
 use Rattle.aw_cell.specs.declared.cell.Cell.{Cell}

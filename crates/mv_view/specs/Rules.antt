@@ -1,8 +1,8 @@
 -- The rules of several writers for one session: what each call makes of its view.
-use Rattle.std.specs.Prelude.{ℕ, ◌+◌, ◌==◌, ◌||◌, Bool, true, false, cond, min, List, [], ◌∷◌, ◌++◌, map, Option, Some, None, find, is_some}
+use Rattle.std.specs.Prelude.{ℕ, ◌+◌, ◌==◌, Bool, true, false, cond, min, List, [], ◌∷◌, map, Option, Some, None, find, is_some}
 use Rattle.std.specs.Option.{option_map}
 use Rattle.aw_cell.specs.declared.cell.Cell.{Cell}
-use Rattle.aw_cell.specs.declared.cell.Cell.TheVariants.{Na, Num, Int, Text, Bool as Truth, Slot}
+use Rattle.aw_cell.specs.declared.cell.Cell.TheVariants.{Na, Slot}
 use Rattle.aw_dim.specs.Values.{Values, name_of}
 use Rattle.aw_schema.specs.declared.definition.Def.{Def}
 use Rattle.aw_schema.specs.declared.definition.DefKind.{DefKind}
@@ -16,7 +16,7 @@ use Rattle.aw_body.specs.declared.change.Fresh.{Fresh}
 use Rattle.aw_body.specs.declared.patch.BodyPatch.{BodyPatch}
 use Rattle.aw_body.specs.declared.patch.BodyPatch.TheVariants.{Cells as CellPatch}
 use Rattle.aw_body.specs.BodyPatches.{applied, difference}
-use Rattle.mv_view.specs.Each.{only, listed, names, gathered_from}
+use Rattle.mv_view.specs.Each.{only, listed, gathered_from}
 use Rattle.mv_view.specs.ViewState.{ObjectView, ViewState, object_of, each}
 
 -- ---- what is staged

@@ -1,5 +1,5 @@
 -- What a session sees of the workspace: of each object that is kept, a generation and three bodies.
-use Rattle.std.specs.Prelude.{ℕ, ◌≡◌, ◌+◌, ◌==◌, ◌&&◌, Bool, true, false, cond, IsTrue, List, [], ◌∷◌, map, length, Option, Some, None, IfSome, find}
+use Rattle.std.specs.Prelude.{ℕ, ◌≡◌, Bool, true, cond, IsTrue, List, [], ◌∷◌, map, length, Option, Some, None, IfSome}
 use Rattle.std.specs.Option.{option_map, IsSomeAnd}
 use Rattle.std.specs.List.{list_all}
 use Rattle.aw_cell.specs.declared.cell.Kind.TheVariants.{Slot}

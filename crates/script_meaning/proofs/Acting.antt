@@ -15,7 +15,7 @@ use Rattle.aw_store.specs.Images.{HoldsRecords, LeftRecords}
 use Rattle.aw_store.specs.Stores.{StoreState, record_of, Doubts, Writes, Answers, Faults, Acts}
 use Rattle.script_world.specs.Outcomes.{Outcome, done, faulted, Attempt, written, on_disk}
 use Rattle.script_world.specs.Left.{done_records, settled_records, IsInDoubt}
-use Rattle.script_world.proofs.Forks.{done_records-append}
+use Rattle.script_world.proofs.callers.Forks.{done_records-append}
 use Rattle.script_world.specs.Running.{Tells}
 use Rattle.script_meaning.specs.Language.{store_writing, objects_machine, ObjectsDisk}
 use Rattle.script_meaning.specs.SameRecords.{SameRecords}

@@ -15,7 +15,7 @@ use Rattle.ses_step.specs.declared.line.Command.TheVariants as command
 use Rattle.aw_cell.specs.Names.{same_word, is_name, is_digit, is_word_byte}
 use Rattle.ses_step.specs.Words.{before_comment, words}
 use Rattle.ses_step.specs.Lines.{keeps_form, after_blanks, is_passed_over, name_in, integer_in, one_word, two_words, assignment, three_words, command_in, is_definition, definition_in, has_prefix, session_line, line_in, line_form}
-use Rattle.script_world.proofs.Moves.{if-holds}
+use Rattle.script_world.proofs.callers.Moves.{if-holds}
 use Rattle.script_meaning.proofs.FittingTurns.{AssignsInteger}
 
 -- what a line assigns is an INTEGER, and what it defines is a name

@@ -13,7 +13,7 @@ use Rattle.script_world.specs.Outcomes.{Attempt}
 use Rattle.script_world.specs.Left.{settled_records, IsInDoubt, IsBegun}
 use Rattle.script_meaning.specs.SameRecords.{SameRecords}
 use Rattle.script_meaning.specs.Faring.{Rise, ended_by, HoldsLeft, Fares}
-use Rattle.script_world.proofs.Elements.{slice_get-append}
+use Rattle.script_world.proofs.callers.Elements.{slice_get-append}
 
 -- ---- moments
 

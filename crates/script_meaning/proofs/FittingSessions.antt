@@ -18,7 +18,7 @@ use Rattle.mv_core.specs.SharedStep.{fresh_from}
 use Rattle.ses_step.specs.declared.session.View.{View}
 use Rattle.ses_step.specs.Sessions.{seen}
 use Rattle.script_meaning.specs.Fit.{is_value, ViewFits, ViewsFit}
-use Rattle.script_world.proofs.Elements.{slice_get-set_cases}
+use Rattle.script_world.proofs.callers.Elements.{slice_get-set_cases}
 use Rattle.script_meaning.proofs.Elements.{slice_get-map_from, slice_get-map_range}
 
 -- ---- the views of a session

@@ -20,16 +20,16 @@ use Rattle.script_meaning.proofs.Begins.{IsOwn, begins}
 use Rattle.script_meaning.proofs.FittingTurns.{acquire_reply-cases, commit_reply-cases}
 use Rattle.script_world.specs.Meaning as world
 use Rattle.script_world.specs.Outcomes.{Outcome, on_disk, among}
-use Rattle.script_world.proofs.DiskFits.{step-holds}
+use Rattle.script_world.proofs.callers.DiskFits.{step-holds}
 use Rattle.script_world.specs.Faults.{refuses_so}
-use Rattle.script_world.proofs.Faults.{Hears}
+use Rattle.script_world.proofs.callers.Faults.{Hears}
 use Rattle.script_world.specs.Laws.{RefusalChangesNothing}
 use Rattle.script_world.specs.Worlds.{Event}
 use Rattle.script_meaning.specs.CommitFaults.{is_fault, fault_answer}
 use Rattle.script_meaning.specs.Matching.{SameState}
 use Rattle.ses_report.specs.Reports as report
 use Rattle.ses_report.specs.Refusals.{no_form}
-use Rattle.script_world.proofs.Refusals.{Mild, refusal_changes_nothing}
+use Rattle.script_world.proofs.callers.Refusals.{Mild, refusal_changes_nothing}
 use Rattle.script_meaning.specs.Language.{store_writing, Waiting, begun_of, begin, finish, form_of, can_define, defined_by, define, HistoryDisk, HistoryWorld, history_machine, by_history}
 
 abbrev QuietForm : world.Form (Option Command) → Type 0

@@ -42,8 +42,8 @@ use Rattle.ses_step.specs.Lines.{line_form}
 use Rattle.script_meaning.proofs.AssignedIntegers.{HasInteger, line_form-integer}
 use Rattle.script_world.specs.Outcomes.{Outcome}
 use Rattle.script_meaning.specs.Language.{language, store_writing, Waiting, begun_of, begin, finish, form_of, can_define, defined_by, define, history_machine}
-use Rattle.script_world.proofs.Fits.{Lawful}
-use Rattle.script_world.proofs.DiskFits.{FaultsKeep}
+use Rattle.script_world.proofs.callers.Fits.{Lawful}
+use Rattle.script_world.proofs.callers.DiskFits.{FaultsKeep}
 
 -- ---- the laws of one session
 

@@ -23,8 +23,8 @@ use Rattle.script_world.specs.Laws.{lines_in, TextFixesWorld}
 use Rattle.script_world.specs.Meaning as world
 use Rattle.script_world.specs.Outcomes.{Outcome, among}
 use Rattle.script_world.specs.Worlds.{Event}
-use Rattle.script_world.proofs.Apart.{Speaks}
-use Rattle.script_world.proofs.Fixing.{TellsApart, text_fixes_world}
+use Rattle.script_world.proofs.callers.Apart.{Speaks}
+use Rattle.script_world.proofs.callers.Fixing.{TellsApart, text_fixes_world}
 use Rattle.script_meaning.specs.Answering.{IsOneLine}
 use Rattle.script_meaning.specs.Language.{store_writing, history_machine, Waiting, begun_of, begin, finish, by_history}
 use Rattle.script_meaning.specs.Transcript.{opening}

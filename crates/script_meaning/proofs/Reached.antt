@@ -23,11 +23,11 @@ use Rattle.script_world.specs.Worlds.{Event, script_ends, with_session, closed, 
 use Rattle.script_world.specs.Outcomes as disk
 use Rattle.script_world.specs.Outcomes.{Outcome, OnDisk, on_disk, among, attempts_of}
 use Rattle.script_world.specs.Left.{settled_records}
-use Rattle.script_world.proofs.Appending.{world_after-append}
-use Rattle.script_world.proofs.Crash.{leaves_a_run}
-use Rattle.script_world.proofs.Told.{used-opening}
-use Rattle.script_world.proofs.Fits as all
-use Rattle.script_world.proofs.DiskFits.{Both, recorded_lawful}
+use Rattle.script_world.proofs.callers.Appending.{world_after-append}
+use Rattle.script_world.proofs.callers.Crash.{leaves_a_run}
+use Rattle.script_world.proofs.callers.Told.{used-opening}
+use Rattle.script_world.proofs.callers.Fits as all
+use Rattle.script_world.proofs.callers.DiskFits.{Both, recorded_lawful}
 use Rattle.script_meaning.specs.CrashRuns.{LeavesARunOf, LeavesWhatOpens}
 use Rattle.script_meaning.specs.Fit.{SharedFits, IsAttached, WorldFits}
 use Rattle.script_meaning.specs.Language.{language, is_any, store_writing, history_machine, HistoryDisk, HistoryWorld, by_history}

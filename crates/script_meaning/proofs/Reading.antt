@@ -40,7 +40,7 @@ use Rattle.script_meaning.specs.Fit.{ViewsFit, SharedFits}
 use Rattle.script_meaning.specs.Extending.{IsExtended, IsCommitted}
 use Rattle.script_meaning.specs.Matching.{CanBeOpened}
 use Rattle.script_meaning.specs.Reading.{IsFresh, Attaches, AttachGivesLatest, is_at, read_after, staged_after, MovesBy, Moves, OwnCommandsMove, IsShown, ShowsWhatIsRead}
-use Rattle.script_world.proofs.Elements.{slice_get-set_other}
+use Rattle.script_world.proofs.callers.Elements.{slice_get-set_other}
 use Rattle.script_meaning.proofs.Elements.{slice_get-set_same}
 use Rattle.script_meaning.proofs.Fitting.{changes_in}
 use Rattle.script_meaning.proofs.FittingSessions.{length-seen, seen-latest}

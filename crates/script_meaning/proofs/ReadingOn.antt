@@ -15,9 +15,9 @@ use Rattle.ses_step.specs.declared.session.View.{View}
 use Rattle.ses_step.specs.Sessions.{new_session}
 use Rattle.script_world.specs.Worlds.{Event, Answered, session_of, silent, refused_so, with_definitions, with_session, own_session, commanded, shared_of, closed, settled, answered, world_after}
 use Rattle.script_world.specs.Outcomes.{Outcome, among}
-use Rattle.script_world.proofs.Appending.{world_after-append}
-use Rattle.script_world.proofs.Moves.{MayTurn}
-use Rattle.script_world.proofs.Walk.{Rests, walk}
+use Rattle.script_world.proofs.callers.Appending.{world_after-append}
+use Rattle.script_world.proofs.callers.Moves.{MayTurn}
+use Rattle.script_world.proofs.callers.Walk.{Rests, walk}
 use Rattle.script_meaning.specs.Fit.{SharedFits}
 use Rattle.script_meaning.specs.Language.{language, HistoryDisk, HistoryWorld, by_history}
 use Rattle.script_meaning.specs.Matching.{CanBeOpened}
@@ -25,7 +25,7 @@ use Rattle.script_meaning.specs.Reading.{Attaches, read_after, Moves, read_by, r
 use Rattle.script_meaning.specs.TakingTurns.{with_turn}
 use Rattle.script_meaning.specs.Transcript.{opening, world_at}
 use Rattle.script_meaning.specs.Turns.{Turn, turn}
-use Rattle.script_world.proofs.Elements.{slice_get-set_other, slice_get-set_cases, slice_get-append, slice_get-push_cases}
+use Rattle.script_world.proofs.callers.Elements.{slice_get-set_other, slice_get-set_cases, slice_get-append, slice_get-push_cases}
 use Rattle.script_meaning.proofs.Elements.{slice_get-set_same}
 use Rattle.script_meaning.proofs.Reached.{WorldStands, taken_up-stands, opening_sessions, world_fits, always_stands, always_fits}
 use Rattle.script_meaning.proofs.Reading.{attach_gives_latest, stays_detached, moves_on_disk}

@@ -22,7 +22,7 @@ use Rattle.aw_store.specs.Replay.{can_replay, names_of, commits_of, commit_recor
 use Rattle.aw_store.specs.Stores.{record_of}
 use Rattle.ses_step.specs.declared.session.Known.{Known as Session}
 use Rattle.script_world.specs.Outcomes.{Outcome}
-use Rattle.script_world.proofs.DiskFits.{Recorded}
+use Rattle.script_world.proofs.callers.DiskFits.{Recorded}
 use Rattle.script_meaning.specs.Values.{in_range}
 use Rattle.script_meaning.specs.Fit.{ViewsFit}
 use Rattle.script_meaning.specs.Language.{store_writing, history_machine}

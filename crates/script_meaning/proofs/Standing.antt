@@ -14,7 +14,7 @@ use Rattle.aw_store.specs.Replay.{names_of, workspace_of}
 use Rattle.script_world.specs.Worlds.{Event, Answered, with_shared, answered, text_of, any_refused, world_after}
 use Rattle.script_world.specs.Outcomes as disk
 use Rattle.script_world.specs.Outcomes.{Outcome, among, attempts_of}
-use Rattle.script_world.proofs.Alike.{MachinesAlike, answered-mapped, disks_alike, events_alike}
+use Rattle.script_world.proofs.callers.Alike.{MachinesAlike, answered-mapped, disks_alike, events_alike}
 use Rattle.script_meaning.specs.Alike.{standing_disk, objects_at, AreAlike}
 use Rattle.script_meaning.specs.Language.{language, store_writing, history_machine, objects_machine, HistoryDisk, ObjectsDisk, HistoryWorld, ObjectsWorld, by_history, by_objects}
 use Rattle.script_meaning.specs.Transcript.{opening, opening_objects, world_at}

@@ -10,7 +10,7 @@ use Rattle.ses_step.specs.Answers.{answer_of}
 use Rattle.ses_step.specs.Sessions.{begun}
 use Rattle.script_world.specs.Worlds.{World, Machine, answers, name_at, answered_so, session_place, with_name, with_session, own_session, begun_so, commanded, crowded_out, shared_of, closed, form_planned, settled}
 use Rattle.script_world.specs.Outcomes.{Outcome}
-use Rattle.script_world.proofs.Moves.{if-holds}
+use Rattle.script_world.proofs.callers.Moves.{if-holds}
 use Rattle.script_meaning.specs.Language.{language, begun_of, form_of, HistoryDisk, HistoryWorld, by_history}
 use Rattle.script_meaning.specs.TakingTurns.{with_turn, LinesTakeTurns}
 use Rattle.script_meaning.specs.Turns.{turn_from, turn}

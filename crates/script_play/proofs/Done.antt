@@ -16,9 +16,9 @@ use Rattle.script_world.specs.Running.{AnswersEvent}
 use Rattle.script_world.specs.Laws.{SameOf}
 use Rattle.script_world.specs.Worlds as script
 use Rattle.script_world.specs.Worlds.{World, Event, with_shared, Answered, is_refused, answered, text_of, world_after}
-use Rattle.script_world.proofs.Running.{tells-behind, runs_on}
-use Rattle.script_world.proofs.Appending.{world_after-append}
-use Rattle.script_world.proofs.Told.{list_told_once}
+use Rattle.script_world.proofs.callers.Running.{tells-behind, runs_on}
+use Rattle.script_world.proofs.callers.Appending.{world_after-append}
+use Rattle.script_world.proofs.callers.Told.{list_told_once}
 use Rattle.script_meaning.specs.Language.{language, store_writing, objects_machine, ObjectsDisk, ObjectsWorld, by_objects}
 use Rattle.script_meaning.specs.Alike.{objects_at}
 use Rattle.script_meaning.specs.StoreRuns.{store_disk, StoreRun}

@@ -6,7 +6,7 @@ use Rattle.aw_store.specs.Images.{HoldsRecords}
 use Rattle.script_world.specs.Laws.{NoneRefused, SomeRefused}
 use Rattle.script_world.specs.Outcomes.{Outcome, Attempt}
 use Rattle.script_world.specs.Worlds.{script_events}
-use Rattle.script_world.proofs.Refused.{none_refused, some_refused}
+use Rattle.script_world.proofs.callers.Refused.{none_refused, some_refused}
 use Rattle.script_meaning.specs.Language.{by_history}
 use Rattle.script_meaning.specs.Transcript.{opening}
 use Rattle.script_disk.specs.declared.opening.Unopened.{Unopened}

@@ -6,8 +6,8 @@ use Rattle.aw_io.specs.Known.{Grows-append}
 use Rattle.script_world.specs.Script.{open_line}
 use Rattle.script_world.specs.Worlds as script
 use Rattle.script_world.specs.Worlds.{ended_events}
-use Rattle.script_world.proofs.Appending.{ended_events-push, more_events}
-use Rattle.script_world.proofs.ScriptLaws.{open_line-push}
+use Rattle.script_world.proofs.callers.Appending.{ended_events-push, more_events}
+use Rattle.script_world.proofs.callers.ScriptLaws.{open_line-push}
 use Rattle.script_play.specs.declared.stop.Stop.{Stop}
 use Rattle.script_play.specs.declared.stop.Stop.TheVariants.{NoMemory}
 use Rattle.script_play.specs.Playing.{Play, said_of, refuses_of, Responded, RespondedSo, HasDone, HasPlayed, HasStopped, Feeds, StopsIn}

@@ -8,7 +8,7 @@ use Rattle.aw_store.specs.Stores.{StoreState}
 use Rattle.script_world.specs.Script.{open_line, script_lines}
 use Rattle.script_world.specs.Worlds.{Event, line, block_ends, script_ends, last_events, ended_events, script_events}
 use Rattle.script_world.specs.Script.{ended_lines}
-use Rattle.script_world.proofs.Appending.{map-append}
+use Rattle.script_world.proofs.callers.Appending.{map-append}
 use Rattle.script_play.specs.declared.world.StoreWorld.{StoreWorld}
 use Rattle.script_play.specs.declared.stop.Stop.{Stop}
 use Rattle.script_play.specs.declared.stop.Stop.TheVariants.{SinkFault, DiskFault, NoMemory}

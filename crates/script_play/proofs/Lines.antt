@@ -28,7 +28,7 @@ use Rattle.ses_step.specs.Lines.{line_form}
 use Rattle.ses_step.specs.Sessions.{new_session, resting, name_at}
 use Rattle.script_world.specs.Outcomes.{Outcome, done, Attempt, as_done, all_attempts, attempts_of}
 use Rattle.script_world.specs.Worlds.{Answered, answered_so, refused_so, no_session, silent, defined, defined_so, answers, with_session, closed, shared_of, commanded, crowded_out, settled, block_ends, script_ends}
-use Rattle.script_world.proofs.Moves.{position-le}
+use Rattle.script_world.proofs.callers.Moves.{position-le}
 use Rattle.script_meaning.specs.Language.{language, can_define, defined_by, is_any, objects_machine, ObjectsDisk, ObjectsWorld}
 use Rattle.script_meaning.specs.StoreRuns.{store_disk}
 use Rattle.script_meaning.specs.TakingTurns.{with_turn}

@@ -6,7 +6,7 @@ use Rattle.std.proofs.lemmas.Bool.{and_parts}
 use Rattle.std.proofs.lemmas.Bool.Decides.{nat_tests}
 use Rattle.aw_cell.specs.Names.{is_word_byte, is_letter, begins_with}
 use Rattle.aw_cell.specs.Text.{is_text, is_text_byte}
-use Rattle.aw_cell.proofs.NameTexts.{is_text-of}
+use Rattle.aw_cell.proofs.callers.NameTexts.{is_text-of}
 use Rattle.ses_step.specs.Words.{is_session_name}
 
 is_text_byte-word : (b : ℕ) → is_word_byte b ≡ true → is_text_byte b ≡ true

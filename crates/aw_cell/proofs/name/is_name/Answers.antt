@@ -1,5 +1,5 @@
 use Rattle.std.proofs.Common.{◌∙◌, sym}
-use Rattle.aw_cell.proofs.NameTexts.{is_text-name_form}
+use Rattle.aw_cell.proofs.callers.NameTexts.{is_text-name_form}
 use Rattle.aw_cell.proofs.name.is_name.Goals as goal
 
 pub returns-then-has_name_form-clause-text : goal.returns-then-has_name_form-clause-text

@@ -1,6 +1,6 @@
 use Rattle.std.proofs.Common.{arith}
-use Rattle.aw_journal.proofs.Each.{reads_some_way}
-use Rattle.aw_journal.proofs.Unique.{reads_one_way}
+use Rattle.aw_journal.proofs.callers.Each.{reads_some_way}
+use Rattle.aw_journal.proofs.callers.Unique.{reads_one_way}
 use Rattle.aw_journal.proofs.laws.each_disk_reads_one_way.Goals as goal
 
 pub returns-clause-reads : goal.returns-clause-reads

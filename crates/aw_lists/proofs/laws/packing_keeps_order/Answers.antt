@@ -1,4 +1,4 @@
-use Rattle.aw_lists.proofs.PackingOrder.{packs_in_order}
+use Rattle.aw_lists.proofs.callers.PackingOrder.{packs_in_order}
 use Rattle.aw_lists.proofs.laws.packing_keeps_order.Goals as goal
 
 pub returns : goal.returns

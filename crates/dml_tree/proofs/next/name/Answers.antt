@@ -1,5 +1,5 @@
 use Rattle.std.proofs.Common.{◌≡◌, true, false, sym}
-use Rattle.aw_cell.proofs.NameTexts.{is_text-name_form}
+use Rattle.aw_cell.proofs.callers.NameTexts.{is_text-name_form}
 use Rattle.dml_tree.proofs.Named.{no_word}
 use Rattle.dml_tree.proofs.next.name.Goals as goal
 

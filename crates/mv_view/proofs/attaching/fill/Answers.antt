@@ -4,7 +4,7 @@ use Rattle.aw_schema.specs.declared.definition.Def.{Def}
 use Rattle.aw_body.specs.declared.change.Fresh.{Fresh}
 use Rattle.aw_body.specs.Bodies.{IsBodyOf}
 use Rattle.mv_view.specs.ViewState.{ObjectView, IsOf, AreSeen, HaveForms, kept_kinds}
-use Rattle.mv_view.specs.Rules.{seen, seen_from}
+use Rattle.mv_view.specs.Rules.{seen}
 use Rattle.mv_view.proofs.Renewing.{seen-none, seen-more, length-seen, HaveForms-last, kept-definition}
 use Rattle.mv_view.proofs.Keeping.{AreSeen-set, AreSeen-none}
 use Rattle.mv_view.proofs.attaching.fill.Goals as goal

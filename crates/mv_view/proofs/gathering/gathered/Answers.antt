@@ -1,6 +1,6 @@
 use Rattle.std.specs.Prelude.{filter_map, List, ℕ}
 use Rattle.std.specs.Option.{option_and_then}
-use Rattle.std.proofs.Common.{◌∙◌, ap, sym}
+use Rattle.std.proofs.Common.{◌∙◌, ap}
 use Rattle.std.proofs.lemmas.List.{take_all}
 use Rattle.mv_view.specs.Each.{object_in}
 use Rattle.mv_view.specs.Rules.{change_of}

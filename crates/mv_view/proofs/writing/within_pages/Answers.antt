@@ -3,7 +3,7 @@ use Rattle.aw_var.specs.declared.fault.VarFault.{VarFault}
 use Rattle.std.proofs.Common.{◌∙◌, ap, sym, subst}
 use Rattle.aw_cell.specs.declared.cell.Cell.{Cell}
 use Rattle.aw_page.specs.Fitting.{is_of_kind}
-use Rattle.aw_var.specs.CellMap.{Cells, set_at, cell_at}
+use Rattle.aw_var.specs.CellMap.{Cells, set_at}
 use Rattle.aw_var.specs.Pages.{page_count}
 use Rattle.aw_var.specs.Variable.{Contents}
 use Rattle.mv_view.proofs.Setting.{set_at-same, cell_at-kind}

@@ -1,4 +1,4 @@
-use Rattle.script_world.proofs.Acknowledged.{leaves_all_done}
+use Rattle.script_world.proofs.callers.Acknowledged.{leaves_all_done}
 use Rattle.script_meaning.specs.SameRecords.{SameRecords}
 use Rattle.script_meaning.proofs.laws.acknowledged_records_are_left.Goals as goal
 

@@ -1,4 +1,4 @@
-use Rattle.script_world.proofs.Apart.{sessions_are_answered}
+use Rattle.script_world.proofs.callers.Apart.{sessions_are_answered}
 use Rattle.script_meaning.specs.Answering.{IsOneLine}
 use Rattle.script_meaning.specs.Language.{by_history}
 use Rattle.script_meaning.proofs.OneLine.{speaks}

@@ -2,7 +2,7 @@ use Rattle.std.specs.Prelude.{◌&&◌, codes}
 use Rattle.std.proofs.Common.{sym}
 use Rattle.std.proofs.lemmas.Bool.{and_parts}
 use Rattle.aw_cell.specs.Names.{is_name, same_word}
-use Rattle.aw_cell.proofs.NameTexts.{is_text-name}
+use Rattle.aw_cell.proofs.callers.NameTexts.{is_text-name}
 use Rattle.ses_step.proofs.line.definition.Goals as goal
 
 pub text_of-requires : goal.text_of-requires

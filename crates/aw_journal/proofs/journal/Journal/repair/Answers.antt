@@ -3,7 +3,7 @@ use Rattle.aw_disk.specs.Images.{TornFrom}
 use Rattle.aw_journal.specs.Journal.{HalfOpen, Stands, framed}
 use Rattle.aw_journal.specs.Passed.{Passed-wider, Passed-none}
 use Rattle.aw_journal.proofs.Bytes.{repaired}
-use Rattle.aw_journal.proofs.Frames.{HalfOpen-left}
+use Rattle.aw_journal.proofs.callers.Frames.{HalfOpen-left}
 use Rattle.aw_journal.proofs.Standing.{Stands-left, on_ok, opens}
 use Rattle.aw_journal.proofs.Steps.{gate-inside, gate-torn, gate-closed, landed}
 use Rattle.aw_journal.specs.declared.doubt.Doubt.TheVariants.{Opening}

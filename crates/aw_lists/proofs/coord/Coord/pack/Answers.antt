@@ -1,7 +1,7 @@
 use Rattle.std.proofs.Common.{arith, ◌≡◌, ◌∙◌, ◌+◌, ◌*◌, ◌<◌, ap, take, get_or}
 use Rattle.std.proofs.lemmas.List.{take_more}
 use Rattle.aw_lists.specs.Coord.{packed}
-use Rattle.aw_lists.proofs.Packing.{packed-push, below-push, packed-fits}
+use Rattle.aw_lists.proofs.callers.Packing.{packed-push, below-push, packed-fits}
 use Rattle.aw_lists.proofs.coord.Coord.pack.Goals as goal
 
 pub overflow_mul-number : goal.overflow_mul-number

@@ -1,15 +1,12 @@
-use Rattle.std.specs.Prelude.{◌≡◌, ◌==◌, vec_capacity, List, Option}
-use Rattle.std.specs.Option.{IsSomeAnd, option_map}
-use Rattle.std.proofs.Common.{◌∙◌, ap, sym, subst, refl}
+use Rattle.std.specs.Prelude.{◌≡◌, ◌==◌, vec_capacity, Option}
+use Rattle.std.specs.Option.{IsSomeAnd}
+use Rattle.std.proofs.Common.{sym, subst, refl}
 use Rattle.aw_body.specs.Bodies.{IsBodyOf}
-use Rattle.aw_body.specs.declared.body.Body.TheVariants.{Dim, Set}
-use Rattle.mv_view.specs.Each.{each_from, listed, only, names}
+use Rattle.aw_body.specs.declared.body.Body.TheVariants.{Dim}
+use Rattle.mv_view.specs.Each.{only}
 use Rattle.mv_view.specs.ViewState.{ObjectView, ViewState, AreSeen, object_of}
 use Rattle.mv_view.specs.Rules as rule
-use Rattle.mv_view.specs.declared.kept.Step.TheVariants.{Update, Revert, Release, Commit}
-use Rattle.mv_view.specs.inside.Steps.{stepped}
-use Rattle.mv_view.proofs.Steps.{AreSeen-each, IsSeen-listed, IsSeen-stepped}
-use Rattle.mv_view.proofs.Keeping.{IsListed-same, owned-cond, owned-renewed, seen-selected, seen-maintained, seen-written}
+use Rattle.mv_view.proofs.Keeping.{IsListed-same, owned-cond, seen-maintained}
 use Rattle.aw_dim.specs.Values.{Values}
 use Rattle.std.specs.Prelude.{ℕ, true, Some, None}
 use Rattle.mv_view.proofs.view.View.maintain.Goals as goal

@@ -1,15 +1,10 @@
-use Rattle.std.specs.Prelude.{◌≡◌, ◌==◌, vec_capacity, List, Option}
-use Rattle.std.specs.Option.{IsSomeAnd, option_map}
+use Rattle.std.specs.Prelude.{◌≡◌, vec_capacity, List, Option}
+use Rattle.std.specs.Option.{option_map}
 use Rattle.std.proofs.Common.{◌∙◌, ap, sym, subst, refl}
-use Rattle.aw_body.specs.Bodies.{IsBodyOf}
-use Rattle.aw_body.specs.declared.body.Body.TheVariants.{Dim, Set}
-use Rattle.mv_view.specs.Each.{each_from, listed, only, names}
-use Rattle.mv_view.specs.ViewState.{ObjectView, ViewState, AreSeen, object_of}
+use Rattle.mv_view.specs.Each.{each_from, listed, names}
+use Rattle.mv_view.specs.ViewState.{ObjectView, ViewState}
 use Rattle.mv_view.specs.Rules as rule
-use Rattle.mv_view.specs.declared.kept.Step.TheVariants.{Update, Revert, Release, Commit}
-use Rattle.mv_view.specs.inside.Steps.{stepped}
-use Rattle.mv_view.proofs.Steps.{AreSeen-each, IsSeen-listed, IsSeen-stepped}
-use Rattle.mv_view.proofs.Keeping.{IsListed-same, owned-cond, owned-renewed, seen-selected, seen-maintained, seen-written}
+use Rattle.mv_view.proofs.Keeping.{IsListed-same, owned-renewed}
 use Rattle.aw_schema.specs.declared.definition.DefKind.{DefKind}
 use Rattle.std.specs.Prelude.{map, ℕ}
 use Rattle.aw_body.specs.declared.change.Fresh.{Fresh}

@@ -5,8 +5,8 @@ use Rattle.script_world.specs.Meaning.{Meaning}
 use Rattle.script_world.specs.Worlds.{World, Machine, Event, Planned, answers, asks, turned, planned, settled, answered, text_of, any_refused, is_refused, world_after}
 use Rattle.script_world.specs.Outcomes.{Outcome, done, faulted, Writing, OnDisk, ended_so, written, on_disk, among, by_list, used, opening}
 use Rattle.script_world.specs.Laws.{SameOf, GoesOn}
-use Rattle.script_world.proofs.Moves.{Keeps, lifts, AsksWith, asks_with}
-use Rattle.script_world.proofs.Appending.{text_of-append, any_refused-append, world_after-append}
+use Rattle.script_world.proofs.callers.Moves.{Keeps, lifts, AsksWith, asks_with}
+use Rattle.script_world.proofs.callers.Appending.{text_of-append, any_refused-append, world_after-append}
 
 module _ {m : Meaning} {R S : Type 0} (writing : Writing m R) (machine : Machine m S) where
   module _ (next : ℕ → Outcome) where

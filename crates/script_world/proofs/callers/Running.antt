@@ -6,8 +6,8 @@ use Rattle.script_world.specs.Meaning.{Meaning}
 use Rattle.script_world.specs.Worlds.{World, Machine, Event, answered, is_refused, world_after, with_shared}
 use Rattle.script_world.specs.Outcomes.{Outcome, Attempt, Writing, OnDisk, among, by_list, used}
 use Rattle.script_world.specs.Running.{Tells, HasRun, AnswersEvent}
-use Rattle.script_world.proofs.Appending.{text_of-append, any_refused-append, world_after-append}
-use Rattle.script_world.proofs.Told.{list_told_once, or-false}
+use Rattle.script_world.proofs.callers.Appending.{text_of-append, any_refused-append, world_after-append}
+use Rattle.script_world.proofs.callers.Told.{list_told_once, or-false}
 
 pub tells-behind : (coming told : List Outcome) (at : ℕ) → length coming ≡ at → Tells (among (coming ++ told)) at told
 tells-behind coming [] at is = tt

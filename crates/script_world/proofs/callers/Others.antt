@@ -5,8 +5,8 @@ use Rattle.std.proofs.Common.{◌∙◌}
 use Rattle.script_world.specs.Meaning.{Meaning}
 use Rattle.script_world.specs.Worlds.{World, Machine, Event, session_of, answered}
 use Rattle.script_world.specs.Laws.{KeepsOthers}
-use Rattle.script_world.proofs.Elements.{slice_get-set_other, slice_get-append}
-use Rattle.script_world.proofs.Moves.{if-holds, Keeps, answered-keeps}
+use Rattle.script_world.proofs.callers.Elements.{slice_get-set_other, slice_get-append}
+use Rattle.script_world.proofs.callers.Moves.{if-holds, Keeps, answered-keeps}
 
 module _ {m : Meaning} {S : Type 0} (machine : Machine m S) (who : ℕ) (session : m.Session) where
   abbrev Holds : World m S → Type 0

@@ -8,8 +8,8 @@ use Rattle.ses_report.specs.Reports.{Answer}
 use Rattle.script_world.specs.Meaning.{Begun, said, ask, Meaning}
 use Rattle.script_world.specs.Worlds.{World, Machine, Event, Answered, with_own, own_session, begun_so, commanded, shared_of, settled, is_refused}
 use Rattle.script_world.specs.Laws.{ChangesNothing, RefusalChangesNothing}
-use Rattle.script_world.proofs.Walk.{Rests, walk}
-use Rattle.script_world.proofs.Elements.{slice_get-append}
+use Rattle.script_world.proofs.callers.Walk.{Rests, walk}
+use Rattle.script_world.proofs.callers.Elements.{slice_get-append}
 
 -- a place that is set to what it holds
 slice_get-set_held : {X : Type 0} (xs : List X) (i : ℕ) (d x y : X) (j : ℕ) → y ≡ slice_index_or xs i d → slice_get xs j ≡ Some x → slice_get (slice_set xs i y) j ≡ Some x

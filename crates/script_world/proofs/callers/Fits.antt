@@ -7,8 +7,8 @@ use Rattle.std.proofs.lemmas.Option.{none-some, same_Some, slice_get-get_or}
 use Rattle.ses_report.specs.Reports.{Answer}
 use Rattle.script_world.specs.Meaning.{said, ask, under, Meaning}
 use Rattle.script_world.specs.Worlds.{World, Machine, Event, first_sessions, own_session, with_name, with_session, closed, world_after}
-use Rattle.script_world.proofs.Elements.{slice_get-set_cases, slice_get-push_cases}
-use Rattle.script_world.proofs.Moves.{MayTurn, Keeps, taken_up-keeps, lifts}
+use Rattle.script_world.proofs.callers.Elements.{slice_get-set_cases, slice_get-push_cases}
+use Rattle.script_world.proofs.callers.Moves.{MayTurn, Keeps, taken_up-keeps, lifts}
 
 -- ---- sessions that no line has named
 

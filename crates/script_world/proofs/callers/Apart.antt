@@ -1,5 +1,5 @@
 -- What events of no session leave, how a session's line is answered, and which events close the definitions.
-use Rattle.std.specs.Prelude.{◌≡◌, ◌≢◌, ◌⊎◌, ◌↔◌, ◌++◌, ℕ, Bool, true, false, List, [], ◌∷◌, length, nat_lt, Option, Some, None, Result, Ok, Err, is_some, IsSome, if◌then◌else◌, refl}
+use Rattle.std.specs.Prelude.{◌≡◌, ◌⊎◌, ◌↔◌, ◌++◌, ℕ, Bool, true, false, List, [], ◌∷◌, length, nat_lt, Option, Some, None, Result, Ok, Err, is_some, IsSome, if◌then◌else◌, refl}
 use Rattle.std.specs.Option.{ForSome}
 use Rattle.std.proofs.Common.{◌∙◌, ap, sym, subst, inl, inr, ⊎_elim}
 use Rattle.std.proofs.lemmas.Bool.{true≢false}
@@ -7,9 +7,9 @@ use Rattle.std.proofs.lemmas.Option.{none-some, same_Some}
 use Rattle.ses_report.specs.declared.refusal.Refusal.{Refusal}
 use Rattle.ses_report.specs.Reports.{Answer, answer_text}
 use Rattle.script_world.specs.Meaning.{Begun, said, ask, Form, nothing, malformed, joins, ends, under, Meaning}
-use Rattle.script_world.specs.Laws.{IsAnswered, SessionsAreAnswered, session_prefix, StaysApart, LeavesApart, MalformedIsRefused, Closes, ClosesExactly}
-use Rattle.script_world.specs.Worlds.{World, Machine, Event, line, block_ends, script_ends, Answered, answers, name_at, silent, crowded_out, with_lines, defined_so, defined_before, defined, session_place, session_in, session_of, with_name, with_session, own_session, begun_so, commanded, shared_of, closed, session_planned, form_planned, block_ended, script_ended, settled, answered}
-use Rattle.script_world.proofs.Moves.{if-holds}
+use Rattle.script_world.specs.Laws.{SessionsAreAnswered, session_prefix, StaysApart, LeavesApart, MalformedIsRefused, Closes, ClosesExactly}
+use Rattle.script_world.specs.Worlds.{World, Machine, Event, line, block_ends, script_ends, Answered, answers, name_at, crowded_out, defined_so, defined_before, defined, session_place, session_in, session_of, with_name, with_session, own_session, begun_so, commanded, shared_of, closed, session_planned, form_planned, block_ended, settled}
+use Rattle.script_world.proofs.callers.Moves.{if-holds}
 
 module _ {m : Meaning} {S : Type 0} (machine : Machine m S) where
   -- ---- events of no session

@@ -3,7 +3,7 @@ use Rattle.std.specs.Prelude.{map}
 use Rattle.std.specs.Str.Lines.{strip_carriage_return}
 use Rattle.std.proofs.Common.{◌≡◌, ◌||◌, ℕ, Bool, true, false, cond, eqb, List, [], ◌∷◌, ◌++◌, refl, sym, ap, ◌∙◌, append_assoc}
 use Rattle.script_world.specs.Script.{ended_lines, open_line}
-use Rattle.script_world.proofs.ScriptLaws.{ended_lines-push, ended_more}
+use Rattle.script_world.proofs.callers.ScriptLaws.{ended_lines-push, ended_more}
 use Rattle.script_world.specs.Meaning.{Meaning}
 use Rattle.script_world.specs.Worlds.{World, Machine, Event, line, answered, text_of, any_refused, is_refused, world_after, ended_events}
 

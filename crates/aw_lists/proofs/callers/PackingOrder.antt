@@ -7,7 +7,7 @@ use Rattle.std.proofs.lemmas.Cmp.{ranked}
 use Rattle.std.proofs.lemmas.Map.Lookups.{exact_bytes}
 use Rattle.std.proofs.lemmas.Nat.{mul-add-lt}
 use Rattle.aw_lists.specs.Coord.{packed, AreSlots, ComesBefore, PackingKeepsOrder}
-use Rattle.aw_lists.proofs.Packing.{packed-below, AreSlots-rest}
+use Rattle.aw_lists.proofs.callers.Packing.{packed-below, AreSlots-rest}
 
 -- what a comparison of two numbers says
 abbrev Compares : Ordering → ℕ → ℕ → Type 0

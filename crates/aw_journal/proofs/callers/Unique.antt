@@ -4,7 +4,7 @@ use Rattle.std.proofs.lemmas.List.{append_cancel_left, take_at, drop_at}
 use Rattle.std.specs.Int.{from_be_bytes, w32}
 use Rattle.aw_journal.specs.Format.{head, frames, size_bytes, AreShort, IsUnformatted}
 use Rattle.aw_journal.specs.Laws.{ReadsOneWay}
-use Rattle.aw_journal.proofs.Frames.{length-size_bytes, size-read}
+use Rattle.aw_journal.proofs.callers.Frames.{length-size_bytes, size-read}
 
 -- no whole frame begins here, and there is at least a gate
 record Ends (tail : List ℕ) : Type 0 where

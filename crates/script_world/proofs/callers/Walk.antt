@@ -8,7 +8,7 @@ use Rattle.aw_cell.specs.Names.{same_word}
 use Rattle.ses_report.specs.declared.refusal.Refusal.{Refusal}
 use Rattle.script_world.specs.Meaning.{Form, nothing, malformed, joins, ends, under, Meaning}
 use Rattle.script_world.specs.Worlds.{World, Machine, Event, line, block_ends, script_ends, Answered, answers, no_session, name_at, silent, refused_so, crowded_out, with_lines, with_definitions, defined_so, defined_before, defined, session_place, session_in, session_of, with_name, with_session, commanded, shared_of, closed, session_planned, form_planned, block_ended, settled, answered}
-use Rattle.script_world.proofs.Moves.{if-holds, position-le, MayTurn}
+use Rattle.script_world.proofs.callers.Moves.{if-holds, position-le, MayTurn}
 
 module _ {m : Meaning} {S : Type 0} (machine : Machine m S) where
   -- why an event that isn't a session's turn is refused

@@ -8,7 +8,7 @@ use Rattle.std.specs.Int.{from_be_bytes, w32}
 use Rattle.std.specs.Str.{bytes_eq}
 use Rattle.aw_journal.specs.Format.{head, frames, size_bytes, AreShort, Holds, CutShort}
 use Rattle.aw_journal.specs.Laws.{Reads}
-use Rattle.aw_journal.proofs.Frames.{frames-push, AreShort-push}
+use Rattle.aw_journal.proofs.callers.Frames.{frames-push, AreShort-push}
 
 AreBytes : List ℕ → Type 0
 AreBytes bytes = (i : ℕ) → get_or bytes i 0 < 256

@@ -6,8 +6,8 @@ use Rattle.script_world.specs.Meaning.{ask, Meaning}
 use Rattle.script_world.specs.Worlds.{Machine}
 use Rattle.script_world.specs.Outcomes.{Outcome, done, faulted, Attempt, Writing, OnDisk, ended_so, written, on_disk, as_done, attempts_of}
 use Rattle.script_world.specs.Left.{done_records}
-use Rattle.script_world.proofs.Forks.{done_records-append}
-use Rattle.script_world.proofs.Fits.{Lawful}
+use Rattle.script_world.proofs.callers.Forks.{done_records-append}
+use Rattle.script_world.proofs.callers.Fits.{Lawful}
 
 module _ {m : Meaning} {R S : Type 0} (writing : Writing m R) (machine : Machine m S) (next : ℕ → Outcome) where
   -- what holds of the machine's reply and state, and of a fault and the old state, holds of the disk's

@@ -1,0 +1,3 @@
+-- Lemmas that are offered to the crates above.
+pub mod Packing
+pub mod PackingOrder
