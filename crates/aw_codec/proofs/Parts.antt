@@ -1,11 +1,11 @@
 -- What stands in a format that goes on with another, and in a single field.
-use Rattle.std.specs.Prelude.{ℕ, ◌≡◌, ◌+◌, ◌^◌, ◌<◌, Bool, List, [], ◌∷◌, ◌++◌, length, IsTrue}
+use Rattle.std.specs.Prelude.{ℕ, ◌≡◌, ◌+◌, ◌^◌, ◌<◌, ◌≤◌, Bool, List, [], ◌∷◌, ◌++◌, length, nat_le, IsTrue}
 use Rattle.std.specs.List.{concat}
-use Rattle.std.specs.Int.{w8, w16, w32, from_be_bytes, to_be_bytes}
+use Rattle.std.specs.Int.{w8, w16, w32, w64, from_be_bytes, to_be_bytes, is_in_range}
 use Rattle.std.proofs.Common.{refl, sym, ap, ◌∙◌, append_assoc, arith, inl, inr, get_or}
-use Rattle.std.proofs.lemmas.Bool.{cases_lt}
+use Rattle.std.proofs.lemmas.Bool.{cases_lt, and_parts, and_from, leb-true, le-leb}
 use Rattle.std.proofs.lemmas.List.{append-nil, get_or_past, get_or_append_left, get_or-append-add}
-use Rattle.std.proofs.lemmas.Nat.{be_bytes_2, be_bytes_4, from_be_bytes-to_be_bytes_2, from_be_bytes-to_be_bytes_4}
+use Rattle.std.proofs.lemmas.Nat.{be_bytes_2, be_bytes_4, be_bytes_8, from_be_bytes-to_be_bytes_2, from_be_bytes-to_be_bytes_4, from_be_bytes-to_be_bytes_8}
 use Rattle.aw_codec.specs.Formats.{Format, ended, field, ◌>>=◌, number, bytes_of, After, HasEnded, IsWhole}
 
 -- ---- bytes
@@ -13,14 +13,14 @@ use Rattle.aw_codec.specs.Formats.{Format, ended, field, ◌>>=◌, number, byte
 abbrev pub AreBytes : List ℕ → Type 0
 AreBytes bytes = (i : ℕ) → get_or bytes i 0 < 256
 
-AreBytes-front : (a b : List ℕ) → AreBytes (a ++ b) → AreBytes a
+pub AreBytes-front : (a b : List ℕ) → AreBytes (a ++ b) → AreBytes a
 AreBytes-front a b each i =
     elim (cases_lt i (length a)) [
       | inl within ↦ rw (get_or_append_left a b 0 i within) at (each i)
       | inr past ↦ rw (get_or_past a i 0 past) (omega arith)
     ]
 
-AreBytes-back : (a b : List ℕ) → AreBytes (a ++ b) → AreBytes b
+pub AreBytes-back : (a b : List ℕ) → AreBytes (a ++ b) → AreBytes b
 AreBytes-back a b each i = rw (get_or-append-add a b i 0) at (each (length a + i))
 
 -- ---- one format behind another
@@ -135,6 +135,18 @@ long_whole test n small passes =
     let again = from_be_bytes-to_be_bytes_4 n small in
     rw again at (field_whole {A = ℕ} 4 (λ b. test (from_be_bytes w32 b)) (from_be_bytes w32) (to_be_bytes w32 n) refl (rw again passes))
 
+pub wide_is : (test : ℕ → Bool) (bytes : List ℕ) (n : ℕ) → Reads (number w64 test) bytes n → (bytes ≡ to_be_bytes w64 n) × IsTrue (test n) × (n < 2 ^ 64)
+unfolding number
+wide_is test bytes n reads =
+    let is = one_field 8 (λ b. test (from_be_bytes w64 b)) (from_be_bytes w64) bytes n reads.whole in
+    (sym (be_bytes_8 bytes n is.0 reads.each is.2), rw is.2 is.1, rw is.2 (omega (arith, reads.each 0, reads.each 1, reads.each 2, reads.each 3, reads.each 4, reads.each 5, reads.each 6, reads.each 7)))
+
+pub wide_whole : (test : ℕ → Bool) (n : ℕ) → n < 2 ^ 64 → IsTrue (test n) → IsWhole (number w64 test) (to_be_bytes w64 n) n
+unfolding number
+wide_whole test n small passes =
+    let again = from_be_bytes-to_be_bytes_8 n small in
+    rw again at (field_whole {A = ℕ} 8 (λ b. test (from_be_bytes w64 b)) (from_be_bytes w64) (to_be_bytes w64 n) refl (rw again passes))
+
 pub bytes_are : (size : ℕ) (test : List ℕ → Bool) (bytes v : List ℕ) → Reads (bytes_of size test) bytes v → (bytes ≡ v) × (length v ≡ size) × IsTrue (test v)
 unfolding bytes_of
 bytes_are size test bytes v reads =
@@ -144,3 +156,26 @@ bytes_are size test bytes v reads =
 pub bytes_whole : (test : List ℕ → Bool) (v : List ℕ) → IsTrue (test v) → IsWhole (bytes_of (length v) test) v v
 unfolding bytes_of
 bytes_whole test v passes = field_whole (length v) test (λ b. b) v refl passes
+
+-- ---- single fields in a range
+
+pub range_is : (low high : ℕ) (bytes : List ℕ) (n : ℕ) → Reads (number w8 (is_in_range low high)) bytes n → (bytes ≡ n ∷ []) × (low ≤ n) × (n ≤ high)
+range_is low high bytes n reads =
+    let is = byte_is (is_in_range low high) bytes n reads in
+    let within = and_parts (nat_le low n) (nat_le n high) is.1 in
+    (is.0, leb-true low n within.0, leb-true n high within.1)
+
+pub range_whole : (low high n : ℕ) → low ≤ n → n ≤ high → IsWhole (number w8 (is_in_range low high)) (n ∷ []) n
+range_whole low high n least most = byte_whole (is_in_range low high) n (and_from (nat_le low n) (nat_le n high) (le-leb low n least) (le-leb n high most))
+
+pub least_is : (least : ℕ) (bytes : List ℕ) (n : ℕ) → Reads (number w16 (nat_le least)) bytes n → (bytes ≡ to_be_bytes w16 n) × (least ≤ n) × (n < 2 ^ 16)
+least_is least bytes n reads = let is = short_is (nat_le least) bytes n reads in (is.0, leb-true least n is.1, is.2)
+
+pub least_whole : (least n : ℕ) → least ≤ n → n < 2 ^ 16 → IsWhole (number w16 (nat_le least)) (to_be_bytes w16 n) n
+least_whole least n more small = short_whole (nat_le least) n small (le-leb least n more)
+
+pub count_is : (least : ℕ) (bytes : List ℕ) (n : ℕ) → Reads (number w32 (nat_le least)) bytes n → (bytes ≡ to_be_bytes w32 n) × (least ≤ n) × (n < 2 ^ 32)
+count_is least bytes n reads = let is = long_is (nat_le least) bytes n reads in (is.0, leb-true least n is.1, is.2)
+
+pub count_whole : (least n : ℕ) → least ≤ n → n < 2 ^ 32 → IsWhole (number w32 (nat_le least)) (to_be_bytes w32 n) n
+count_whole least n more small = long_whole (nat_le least) n small (le-leb least n more)

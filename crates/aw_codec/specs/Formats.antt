@@ -1,5 +1,5 @@
 -- Formats: what may stand in a row of bytes, one field behind the other.
-use Rattle.std.specs.Prelude.{ℕ, ◌≡◌, ◌≢◌, ◌<◌, ◌≤◌, ◌⊎◌, Bool, false, List, [], ◌∷◌, length, take, drop, IsTrue}
+use Rattle.std.specs.Prelude.{ℕ, zero, suc, ◌++◌, ◌≡◌, ◌≢◌, ◌<◌, ◌≤◌, ◌⊎◌, Bool, false, List, [], ◌∷◌, length, take, drop, IsTrue}
 use Rattle.std.specs.List.{concat}
 use Rattle.std.specs.Int.{Width, byte_len, from_be_bytes}
 
@@ -22,6 +22,11 @@ number w test = field (byte_len w) (λ bytes. test (from_be_bytes w bytes)) (λ 
 -- so many bytes that pass the test
 unfoldable pub bytes_of : ℕ → (List ℕ → Bool) → Format (List ℕ)
 bytes_of width test = field width test (λ bytes. ended bytes)
+
+-- so many of these one behind the other, each of which depends on those before it
+unfoldable pub many : {X : Type 0} → (List X → Format X) → ℕ → List X → Format (List X)
+many next zero before = ended before
+many next (suc n) before = next before >>= λ x. many next n (before ++ x ∷ [])
 
 -- These fields stand one behind the other, each as it may after those before it, and P holds of what may stand next.
 abbrev pub After : {A : Type 0} → Format A → List (List ℕ) → (Format A → Type 0) → Type 0

@@ -1,89 +1,77 @@
-ghost use Rattle.std.specs.Prelude.{◌≡◌, ◌++◌, IsTrue, OnOk, IfOk};
+ghost use Rattle.std.specs.Prelude.{◌≡◌, ◌↔◌, ◌<◌, ◌≤◌, ◌++◌, ℕ, length, min, Err, OnOk, IfOk};
+ghost use Rattle.aw_schema.specs.RecordLength.{record_len};
 ghost use Rattle.aw_codec.specs.declared.record.Decoded.TheVariants.{Definitions, Commit};
-ghost use Rattle.aw_codec.specs.Records as spec;
-ghost use Rattle.aw_cell.specs.Cell.{is_integer_cell};
-ghost use Rattle.aw_codec.specs.Records.{spelled, IsRecord, AreDefinable, AreCommittable};
-ghost use Rattle.aw_codec.specs.Records.{IsSpelled, IsChange, FitsPayload};
+ghost use Rattle.aw_codec.specs.Records.{spelled, IsRecord, AreCommittable, FitsPayload};
 
-use crate::marks::{
-    CELLS_PATCH, COMMIT, DEFINITIONS, INTEGER, INTEGER_CELL, NA_CELL, NO_DIMENSIONS, NO_SLOTS,
-    VARIABLE, VERSION,
-};
+use crate::marks::{COMMIT, DEFINITIONS, VERSION};
 use crate::record::CodeLong;
-use aw_cell::{Cell, Text};
+use crate::sizes::commit_len;
+use crate::writing::{push_changes, push_definitions};
+use aw_body::Change;
 use aw_lists::List;
+use aw_schema::Catalogue;
 use std::alloc::{AllocError, Global};
 
-/// Adds a definition at the end.
-fn push_definition(out: &mut Vec<u8>, name: &Text) -> Result<(), AllocError>
-    ensures { OnOk result (out.new.items ≡ out.old.items ++ spec.definition name.now) }
-{
-    let bytes = name.bytes();
-    out.push(bytes.len() as u8)?;
-    out.extend_from_slice(bytes)?;
-    out.extend_from_slice(&[VARIABLE, INTEGER, NO_DIMENSIONS])?;
-    Ok(())
-}
+/// The most bytes that a record has.
+const MOST: u64 = 67_108_864;
 
-/// Adds a cell at the end.
-fn push_cell(out: &mut Vec<u8>, cell: &Cell) -> Result<(), AllocError>
-    requires { IsTrue (is_integer_cell cell.now) }
-    ensures value { OnOk result (out.new.items ≡ out.old.items ++ spec.cell cell.now) }
-    ensures fits { OnOk result (IsSpelled cell.now) }
+/// Adds the record of a catalogue's definitions.
+fn push_catalogue(out: &mut Vec<u8>, catalogue: &Catalogue) -> Result<(), AllocError>
+    ensures value { OnOk result (out.new.items ≡ out.old.items ++ spelled (Definitions catalogue.now)) }
+    ensures record { OnOk result (IsRecord (Definitions catalogue.now)) }
 {
-    match cell {
-        Cell::Na => out.push(NA_CELL)?,
-        Cell::Int(value) => {
-            out.push(INTEGER_CELL)?;
-            out.extend_from_slice(&value.to_be_bytes())?;
-        }
-        _ => unreachable!(),
-    }
-    Ok(())
-}
-
-/// Adds a change at the end.
-fn push_change(out: &mut Vec<u8>, object: u16, cell: &Cell) -> Result<(), AllocError>
-    requires { IsTrue (is_integer_cell cell.now) }
-    ensures value { OnOk result (out.new.items ≡ out.old.items ++ spec.change (object, cell.now)) }
-    ensures fits { OnOk result (IsChange (object, cell.now)) }
-{
-    out.extend_from_slice(&object.to_be_bytes())?;
-    out.extend_from_slice(&[CELLS_PATCH, NO_SLOTS])?;
-    out.extend_from_slice(&1_u32.to_be_bytes())?;
-    push_cell(out, cell)
-}
-
-/// The bytes of the record that defines INTEGER variables of these names, in this order
-/// (docs/FORMATS.md, "Records"). The only error is want of memory.
-pub fn encode_catalogue(alloc: Global, names: &List<Text>) -> Result<List<u8>, CodeLong>
-    requires { AreDefinable names.now }
-    ensures value { IfOk result (λ bytes. bytes ≡ spelled (Definitions names.now)) }
-    ensures record { OnOk result (IsRecord (Definitions names.now)) }
-    ensures payload { IfOk result FitsPayload }
-{
-    let mut out = Vec::new(alloc);
     out.extend_from_slice(&[DEFINITIONS, VERSION])?;
-    out.extend_from_slice(&(names.len() as u16).to_be_bytes())?;
-    for name in names.as_slice() {
-        push_definition(&mut out, name)?;
+    out.extend_from_slice(&(catalogue.len() as u16).to_be_bytes())?;
+    push_definitions(out, catalogue)
+}
+
+/// Adds the commit of changes, whose bytes are no more than a record has.
+fn push_commit(out: &mut Vec<u8>, changes: &[Change]) -> Result<(), AllocError>
+    requires committable { AreCommittable changes.now }
+    requires small { length (spelled (Commit changes.now)) ≤ 67108864 }
+    ensures value { OnOk result (out.new.items ≡ out.old.items ++ spelled (Commit changes.now)) }
+    ensures record { OnOk result (IsRecord (Commit changes.now)) }
+{
+    out.extend_from_slice(&[COMMIT, VERSION])?;
+    out.extend_from_slice(&(changes.len() as u16).to_be_bytes())?;
+    push_changes(out, changes)
+}
+
+/// The bytes of the record of a catalogue's definitions (docs/FORMATS.md, "Records"). `TooLarge`
+/// exactly where they are more than 67,108,864, with how many they are.
+pub fn encode_catalogue(alloc: Global, catalogue: &Catalogue) -> Result<List<u8>, CodeLong>
+    ensures value { IfOk result (λ bytes. bytes ≡ spelled (Definitions catalogue.now)) }
+    ensures record { OnOk result (IsRecord (Definitions catalogue.now)) }
+    ensures payload { IfOk result FitsPayload }
+    ensures size { length (spelled (Definitions catalogue.now)) ≡ record_len catalogue.now }
+    ensures too_large { (n : ℕ) → (result ≡ Err (CodeLong.TooLarge n)) ↔ ((n ≡ record_len catalogue.now) × (67108864 < n)) }
+{
+    let bytes = catalogue.record_len();
+    if bytes > MOST {
+        return Err(CodeLong::TooLarge(bytes));
     }
+    let mut out = Vec::with_capacity(alloc, bytes as usize)?;
+    push_catalogue(&mut out, catalogue)?;
     Ok(List::from_vec(out))
 }
 
-/// The bytes of the commit that gives these objects these cells (docs/FORMATS.md, "Records"). The
-/// only error is want of memory.
-pub fn encode_commit(alloc: Global, changes: &List<(u16, Cell)>) -> Result<List<u8>, CodeLong>
+/// The bytes of the commit of these changes (docs/FORMATS.md, "Records"), which are 1 to 4,096 by
+/// rising object, each with a patch that a record can hold. `TooLarge` exactly where they are more
+/// than 67,108,864, with how many they are, or 2^64-1 where they are more than that.
+#[tactic(auto, using(crate::proofs::callers::Lengths::commit_length))]
+pub fn encode_commit(alloc: Global, changes: &List<Change>) -> Result<List<u8>, CodeLong>
     requires { AreCommittable changes.now }
     ensures value { IfOk result (λ bytes. bytes ≡ spelled (Commit changes.now)) }
     ensures record { OnOk result (IsRecord (Commit changes.now)) }
     ensures payload { IfOk result FitsPayload }
+    ensures too_large { (n : ℕ) → (result ≡ Err (CodeLong.TooLarge n)) ↔
+        ((n ≡ min (length (spelled (Commit changes.now))) 18446744073709551615) × (67108864 < n)) }
 {
-    let mut out = Vec::new(alloc);
-    out.extend_from_slice(&[COMMIT, VERSION])?;
-    out.extend_from_slice(&(changes.len() as u16).to_be_bytes())?;
-    for (object, cell) in changes.as_slice() {
-        push_change(&mut out, *object, cell)?;
+    let bytes = commit_len(changes.as_slice());
+    if bytes > MOST {
+        return Err(CodeLong::TooLarge(bytes));
     }
+    let mut out = Vec::with_capacity(alloc, bytes as usize)?;
+    push_commit(&mut out, changes.as_slice())?;
     Ok(List::from_vec(out))
 }

@@ -2,13 +2,22 @@
 //! "Records").
 #![tactic(auto)]
 
+mod cells;
+mod changes;
 mod decoding;
+mod definitions;
 mod encoding;
 mod fields;
+mod keys;
 mod laws;
 mod marks;
+mod patches;
 mod record;
+mod sizes;
+mod slots;
 mod threads;
+mod values;
+mod writing;
 
 pub use decoding::decode;
 pub use encoding::{encode_catalogue, encode_commit};

@@ -2,17 +2,18 @@ ghost use Rattle.std.specs.Prelude.{◌≡◌};
 ghost use Rattle.aw_codec.specs.declared.record.BadRecord.TheVariants as bad;
 ghost use Rattle.aw_codec.specs.declared.record.CodeLong.TheVariants as long;
 
-use aw_cell::{Cell, Text};
+use aw_body::Change;
 use aw_lists::List;
+use aw_schema::Def;
 use std::alloc::{AllocError, AllocFailed};
 
 /// A record (docs/FORMATS.md, "Records").
-#[derive(Debug, PartialEq, Eq, Drop)]
+#[derive(Drop)]
 pub enum Decoded {
-    /// The names of INTEGER variables without dimensions, in the order of their definitions.
-    Definitions(List<Text>),
-    /// The objects that a commit changes, by rising number, each with its new cell.
-    Commit(List<(u16, Cell)>),
+    /// The definitions of a workspace, in their order.
+    Definitions(List<Def>),
+    /// The changes of a commit, by rising number of their objects.
+    Commit(List<Change>),
 }
 
 /// Why bytes weren't read as a record.
@@ -44,6 +45,8 @@ impl<T: Drop> From<AllocFailed<T>> for BadRecord {
 /// Why a record wasn't spelled.
 #[derive(Clone, Copy, Debug, PartialEq, Eq)]
 pub enum CodeLong {
+    /// It would have more than 67,108,864 bytes: how many, and 2^64-1 where they are more than that.
+    TooLarge(u64),
     /// There was no memory for its bytes.
     NoMemory,
 }

@@ -1,5 +1,5 @@
 -- That a load's answer is the one of its image.
-use Rattle.std.proofs.Common.{◌≡◌, ℕ, List, Option, Some, None, IfSome, IfOk, IfErr, Result, Ok, Err}
+use Rattle.std.proofs.Common.{ℕ, List, Option, Some, None, IfSome, IfOk, IfErr, Result, Ok, Err}
 use Rattle.aw_journal.specs.Loads.{IsAnswered}
 use Rattle.aw_journal.specs.declared.fault.LoadFault.{LoadFault}
 use Rattle.aw_journal.specs.declared.fault.LoadFault.TheVariants.{Unformatted, Damaged, DiskFault, NoMemory}

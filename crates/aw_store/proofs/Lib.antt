@@ -1,10 +1,10 @@
-pub mod Changes
-pub mod Commits
-pub mod Distinct
-pub mod Following
+pub mod CallerLemmas
+pub mod Answering
+pub mod Granting
 pub mod Loading
 pub mod Payloads
 pub mod Reading
-pub mod Spellings
 pub mod Steps
-pub mod Answering
+pub mod Taking
+pub mod Writing
+pub mod callers

@@ -1,14 +1,14 @@
 -- The payloads of a journal, one after the other.
 use Rattle.std.proofs.Common.{ℕ, zero, suc, ◌≡◌, ◌+◌, ◌<◌, ◌≤◌, ◌++◌, ◌∷◌, [], List, length, map, take, drop, get_or, Option, None, ap, sym, subst, ◌∙◌, arith, append_assoc, length-append, take-append-drop}
 use Rattle.std.proofs.lemmas.List.{length-map, take_more, get_or-map, length-take}
-use Rattle.aw_cell.specs.declared.cell.Cell.{Cell}
+use Rattle.aw_schema.specs.declared.definition.Def.{Def}
 use Rattle.aw_journal.specs.Format.{frames, size_bytes, placed}
 use Rattle.aw_journal.proofs.callers.Frames.{length-size_bytes}
 use Rattle.aw_journal.specs.declared.payload.Payload.{Payload}
-use Rattle.mv_core.specs.declared.object.Object.{Object}
+use Rattle.mv_core.specs.Workspace.{Table}
 use Rattle.aw_store.specs.Recorded.{record_from, AreSpellings}
 use Rattle.aw_store.specs.Replaying.{bytes_of, Leave, AreReplayed, IsStopped, IsNoNext, Taken}
-use Rattle.aw_store.proofs.Spellings.{one_more, settled_more}
+use Rattle.aw_store.proofs.callers.Spellings.{one_more, settled_more}
 
 pub length-front : (i : ℕ) (payloads : List Payload) → length (map record_from (take i (map bytes_of payloads))) ≤ length payloads
 length-front i payloads =
@@ -33,13 +33,13 @@ placed-offset offset (bytes ∷ settled) (suc i) other within =
       length-size_bytes (length bytes),
     )
 
-pub next_taken : (payloads : List Payload) (i : ℕ) (payload : Payload) (names : Option (List (List ℕ))) (objects : List (Object Cell)) → i < length payloads → payload ≡ get_or payloads i payload
-    → AreSpellings (take i (map bytes_of payloads)) None → Taken (map record_from (take i (map bytes_of payloads))) payload.bytes names objects → AreReplayed (take (i + 1) (map bytes_of payloads)) names objects
-next_taken payloads i payload names objects within is spellings taken =
+pub next_taken : (payloads : List Payload) (i : ℕ) (payload : Payload) (catalogue : Option (List Def)) (table : Table) → i < length payloads → payload ≡ get_or payloads i payload
+    → AreSpellings (take i (map bytes_of payloads)) None → Taken (map record_from (take i (map bytes_of payloads))) payload.bytes catalogue table → AreReplayed (take (i + 1) (map bytes_of payloads)) catalogue table
+next_taken payloads i payload catalogue table within is spellings taken =
     let front = take i (map bytes_of payloads) in
     rw (next_bytes payloads i payload within is) (record {
       spellings = settled_more front None spellings payload.bytes taken.next;
-      leave = subst (λ records. Leave records names objects) (sym (one_more front payload.bytes)) taken.leave;
+      leave = subst (λ records. Leave records catalogue table) (sym (one_more front payload.bytes)) taken.leave;
     })
 
 pub stopped : (payloads : List Payload) (i : ℕ) (payload : Payload) → payloads ≡ placed 8 (map bytes_of payloads) → i < length payloads → payload ≡ get_or payloads i payload

@@ -1,24 +1,25 @@
 -- Each image reads as records in some way, and in one way alone.
-use Rattle.std.proofs.Common.{ℕ, ◌≡◌, ◌⊎◌, ◌+◌, ◌<◌, ◌++◌, ◌∷◌, [], ◌&&◌, true, List, length, map, get_or, All, refl, ap, ap₂, sym, subst, ◌∙◌, inl, inr, arith, append_assoc, append-nil, length-append, nat_le}
+use Rattle.std.proofs.Common.{ℕ, ◌≡◌, ◌⊎◌, ◌+◌, ◌<◌, ◌++◌, ◌∷◌, [], ◌&&◌, true, List, length, map, get_or, All, refl, ap, ap₂, sym, subst, ◌∙◌, inl, inr, arith, append_assoc, append-nil, length-append}
 use Rattle.std.specs.List.{list_all}
-use Rattle.std.proofs.lemmas.Bool.{and_parts, and_from, cases_Bool}
+use Rattle.std.proofs.lemmas.Bool.{and_parts, and_from, cases_Bool, cases_lt}
 use Rattle.std.proofs.lemmas.List.{map-append, get_or_default, get_or_append_left, get_or-append-add}
-use Rattle.std.proofs.lemmas.List.Folds.{list_all-append}
+use Rattle.aw_schema.specs.declared.definition.Def.{Def}
+use Rattle.aw_body.specs.declared.change.Change.{Change}
 use Rattle.aw_codec.specs.declared.record.Decoded.{Decoded}
 use Rattle.aw_codec.specs.declared.record.Decoded.TheVariants.{Definitions, Commit}
-use Rattle.aw_codec.specs.Records.{spelled, IsRecord, are_distinct}
-use Rattle.aw_codec.proofs.SpellingLaws.{spelling_or_fault}
+use Rattle.aw_codec.specs.Records.{spelled, IsRecord}
 use Rattle.aw_journal.specs.Format.{head, frames, size_bytes, Holds, IsUnformatted}
 use Rattle.aw_journal.specs.Laws.{ReadsOneWay}
 use Rattle.aw_journal.proofs.callers.Each.{reads_some_way}
 use Rattle.aw_journal.proofs.callers.Unique.{reads_one_way}
-use Rattle.aw_store.specs.Replay.{is_commit_among, can_replay}
-use Rattle.aw_store.specs.Images.{AreRecords, HoldsRecords, IsDamaged}
+use Rattle.aw_store.specs.Replay.{are_replayed, are_accepted_after, fits_latest, are_commits_after, can_replay}
+use Rattle.aw_store.specs.Images.{IsStored, AreRecords, HoldsRecords, IsDamaged}
 use Rattle.aw_store.specs.Recorded.{record_from}
 use Rattle.aw_store.specs.Replaying.{IsNoNext}
 use Rattle.aw_store.specs.Laws.{ReadsRecords, ReadsRecordsOneWay}
-use Rattle.aw_store.proofs.Following.{not_both}
-use Rattle.aw_store.proofs.Spellings.{record_from-spelled, AreRecords-append}
+use Rattle.aw_codec.proofs.CallerLemmas.{spelling_or_fault}
+use Rattle.aw_store.proofs.callers.Following.{not_both}
+use Rattle.aw_store.proofs.callers.Spellings.{record_from-spelled, AreRecords-append}
 
 -- ---- bytes
 
@@ -52,14 +53,14 @@ records-once [] [] are are' same = refl
 records-once [] (other ∷ others) are are' same = cc
 records-once (r ∷ records) [] are are' same = cc
 records-once (r ∷ records) (other ∷ others) are are' same =
-    ap₂ (λ (one : Decoded) (rest : List Decoded). one ∷ rest) (spelled-once r other are.0 are'.0 cc) (records-once records others are.1 are'.1 cc)
+    ap₂ (λ (one : Decoded) (rest : List Decoded). one ∷ rest) (spelled-once r other are.0.spelling are'.0.spelling cc) (records-once records others are.1 are'.1 cc)
 
 -- behind the records before comes the record that the payload spells
 record GoesOn (before : List Decoded) (payload : List ℕ) (records : List Decoded) : Type 0 where
   pub r : Decoded
   pub rest : List Decoded
   pub is : records ≡ before ++ r ∷ rest
-  pub fits : IsRecord r
+  pub fits : IsStored r
   pub spelling : payload ≡ spelled r
 
 on : (one other : Decoded) (before : List Decoded) (payload : List ℕ) (records : List Decoded) → other ≡ one → GoesOn before payload records → GoesOn (one ∷ before) payload (other ∷ records)
@@ -76,7 +77,7 @@ goes_on [] [] payload after are are' same = cc
 goes_on [] (r ∷ records) payload after are are' same = record { r = r; rest = records; is = refl; fits = are'.0; spelling = cc }
 goes_on (one ∷ before) [] payload after are are' same = cc
 goes_on (one ∷ before) (other ∷ records) payload after are are' same =
-    on one other before payload records (spelled-once other one are'.0 are.0 cc) (goes_on before records payload after are.1 are'.1 cc)
+    on one other before payload records (spelled-once other one are'.0.spelling are.0.spelling cc) (goes_on before records payload after are.1 are'.1 cc)
 
 -- of two lists, both followed by a payload in one list of payloads, either is the other, or goes on with the other's payload
 abbrev Compared : List Decoded → List ℕ → List Decoded → List ℕ → Type 0
@@ -87,7 +88,7 @@ compared [] [] payload other after rest are are' same = inl refl
 compared [] (r ∷ others) payload other after rest are are' same = inr (inl (record { r = r; rest = others; is = refl; fits = are'.0; spelling = cc }))
 compared (r ∷ before) [] payload other after rest are are' same = inr (inr (record { r = r; rest = before; is = refl; fits = are.0; spelling = cc }))
 compared (r ∷ before) (s ∷ others) payload other after rest are are' same =
-    let first : r ≡ s = spelled-once r s are.0 are'.0 cc in
+    let first : r ≡ s = spelled-once r s are.0.spelling are'.0.spelling cc in
     elim (compared before others payload other after rest are.1 are'.1 cc) [
       | inl equal ↦ inl (ap₂ (λ (one : Decoded) (rest : List Decoded). one ∷ rest) first equal)
       | inr (inl more) ↦ inr (inl (on r s before payload others (sym first) more))
@@ -95,13 +96,22 @@ compared (r ∷ before) (s ∷ others) payload other after rest are are' same =
     ]
 
 -- the first records of a list that can be replayed can be replayed
+commits-front : (definitions : List Def) (history : List (List Change)) (records more : List Decoded) → are_commits_after definitions history (records ++ more) ≡ true → are_commits_after definitions history records ≡ true
+commits-front definitions history [] more are = refl
+commits-front definitions history (Definitions others ∷ records) more are = are
+commits-front definitions history (Commit changes ∷ records) more are =
+    let fit = list_all (fits_latest definitions history) changes in
+    let parts = and_parts fit (are_commits_after definitions (history ++ changes ∷ []) (records ++ more)) are in
+    and_from fit (are_commits_after definitions (history ++ changes ∷ []) records) parts.0 (commits-front definitions (history ++ changes ∷ []) records more parts.1)
+
 can_replay-front : (records more : List Decoded) → can_replay (records ++ more) ≡ true → can_replay records ≡ true
 can_replay-front [] more replayable = refl
-can_replay-front (Definitions names ∷ records) more replayable =
-    let head = nat_le (length names) 4096 && are_distinct names in
-    let test = is_commit_among (length names) in
-    let parts = and_parts head (list_all test (records ++ more)) replayable in
-    and_from head (list_all test records) parts.0 (and_parts (list_all test records) (list_all test more) (sym (list_all-append test records more) ∙ parts.1)).0
+can_replay-front (Definitions definitions ∷ records) more replayable =
+    let kinds = are_replayed definitions in
+    let accepted = are_accepted_after [] definitions in
+    let parts = and_parts kinds (accepted && are_commits_after definitions [] (records ++ more)) replayable in
+    let others = and_parts accepted (are_commits_after definitions [] (records ++ more)) parts.1 in
+    and_from kinds (accepted && are_commits_after definitions [] records) parts.0 (and_from accepted (are_commits_after definitions [] records) others.0 (commits-front definitions [] records more others.1))
 can_replay-front (Commit changes ∷ records) more replayable = cc
 
 goes_on_bad : (before : List Decoded) (payload : List ℕ) (records : List Decoded) → GoesOn before payload records → can_replay records ≡ true → IsNoNext before payload → ⊥
@@ -170,6 +180,18 @@ further : (before : List Decoded) (r : Decoded) (payload : List ℕ) (payloads :
 further before r payload payloads same =
     sym (append_assoc (map spelled before) (payload ∷ []) payloads) ∙ ap (λ one. (map spelled before ++ one ∷ []) ++ payloads) same ∙ ap (λ front. front ++ payloads) (sym (map-append spelled before (r ∷ [])))
 
+-- the next payload is no record of a length that is kept
+bad_here : (settled : List (List ℕ)) (before : List Decoded) (payload : List ℕ) (payloads : List (List ℕ)) → settled ≡ map spelled before ++ payload ∷ payloads → AreRecords before → can_replay before ≡ true → IsNoNext before payload → IsBad settled
+bad_here settled before payload payloads parts are replayable bad = record {
+  before = before;
+  payload = payload;
+  after = payloads;
+  parts = parts;
+  spellings = are;
+  replayable = replayable;
+  bad = bad;
+}
+
 held_or_bad : (settled : List (List ℕ)) (before : List Decoded) (payloads : List (List ℕ)) → AllBytes payloads → settled ≡ map spelled before ++ payloads → AreRecords before → can_replay before ≡ true → IsHeld settled ⊎ IsBad settled
 held_or_bad settled before [] each parts are replayable = inl (record {
   records = before;
@@ -178,32 +200,19 @@ held_or_bad settled before [] each parts are replayable = inl (record {
   replayable = replayable;
 })
 held_or_bad settled before (payload ∷ payloads) each parts are replayable =
-    elim (spelling_or_fault payload each.0) [
-      | inl (r, is) ↦
-          elim (cases_Bool (can_replay (before ++ r ∷ []))) [
-            | inl can ↦
-                held_or_bad settled (before ++ r ∷ []) payloads each.1 (parts ∙ further before r payload payloads is.same) (AreRecords-append before r are is.fits) can
-            | inr cannot ↦
-                inr (record {
-                  before = before;
-                  payload = payload;
-                  after = payloads;
-                  parts = parts;
-                  spellings = are;
-                  replayable = replayable;
-                  bad = λ other fits same. ap (λ one. can_replay (before ++ one ∷ [])) (spelled-once other r fits is.fits (sym same ∙ is.same)) ∙ cannot;
-                })
+    elim (cases_lt 67108864 (length payload)) [
+      | inl long ↦ inr (bad_here settled before payload payloads parts are replayable (λ other fits same. absurd (omega (arith, long, fits.short, ap length same))))
+      | inr short ↦
+          elim (spelling_or_fault payload each.0) [
+            | inl (r, is) ↦
+                elim (cases_Bool (can_replay (before ++ r ∷ []))) [
+                  | inl can ↦
+                      held_or_bad settled (before ++ r ∷ []) payloads each.1 (parts ∙ further before r payload payloads is.same) (AreRecords-append before r are (record { spelling = is.fits; short = omega (arith, short, ap length is.same) })) can
+                  | inr cannot ↦
+                      inr (bad_here settled before payload payloads parts are replayable (λ other fits same. ap (λ one. can_replay (before ++ one ∷ [])) (spelled-once other r fits.spelling is.fits (sym same ∙ is.same)) ∙ cannot))
+                ]
+            | inr (k, faulty) ↦ inr (bad_here settled before payload payloads parts are replayable (λ other fits same. absurd (faulty.none other fits.spelling same)))
           ]
-      | inr (k, faulty) ↦
-          inr (record {
-            before = before;
-            payload = payload;
-            after = payloads;
-            parts = parts;
-            spellings = are;
-            replayable = replayable;
-            bad = λ other fits same. absurd (faulty.none other fits same);
-          })
     ]
 
 pub reads_records : (image : List ℕ) → ((i : ℕ) → get_or image i 0 < 256) → ReadsRecords image

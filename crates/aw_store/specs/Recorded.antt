@@ -1,13 +1,13 @@
 -- The records that a journal's payloads spell.
-use Rattle.std.specs.Prelude.{ℕ, ◌≡◌, ◌++◌, List, [], ◌∷◌, map, Option, None, Some, IsTrue}
+use Rattle.std.specs.Prelude.{ℕ, ◌≡◌, ◌++◌, List, [], ◌∷◌, map, fold, length, min, Option, None, Some, IsTrue}
 use Rattle.std.specs.Result.{result_unwrap_or}
 use Rattle.aw_codec.specs.declared.record.Decoded.{Decoded}
 use Rattle.aw_codec.specs.declared.record.Decoded.TheVariants.{Definitions}
 use Rattle.aw_codec.specs.Reading.{whole}
 use Rattle.aw_codec.specs.RecordFormat.{record_format}
-use Rattle.aw_codec.specs.Records.{spelled, IsRecord}
+use Rattle.aw_codec.specs.Records.{spelled}
 use Rattle.aw_store.specs.Replay.{can_replay}
-use Rattle.aw_store.specs.Images.{AreRecords}
+use Rattle.aw_store.specs.Images.{IsStored, AreRecords}
 
 -- the record that these bytes spell; bytes that spell none aren't asked
 unfoldable pub record_from : List ℕ → Decoded
@@ -16,7 +16,7 @@ record_from bytes = result_unwrap_or (whole record_format bytes) (Definitions []
 -- these bytes spell a record with which the records so far can be replayed
 pub record IsNext (records : List Decoded) (bytes : List ℕ) : Type 0 where
   pub spelling : bytes ≡ spelled (record_from bytes)
-  pub fits : IsRecord (record_from bytes)
+  pub fits : IsStored (record_from bytes)
   pub replayable : IsTrue (can_replay (records ++ record_from bytes ∷ []))
 
 -- so does a payload in doubt, where there is one
@@ -30,6 +30,15 @@ pub record AreSpellings (settled : List (List ℕ)) (doubt : Option (List ℕ)) 
   pub spellings : AreRecords (map record_from settled)
   pub replayable : IsTrue (can_replay (map record_from settled))
   pub next : IsNextInDoubt (map record_from settled) doubt
+
+-- the spelling of the last record, and no bytes where there is none
+abbrev pub last_spelling : List Decoded → List ℕ
+last_spelling records = fold (λ (bytes : List ℕ) (r : Decoded). spelled r) [] records
+
+-- how many records there are, up to 2 ^ 64 - 1, and the bytes of the last one
+pub record IsLast (records : List Decoded) (number : ℕ) (bytes : List ℕ) : Type 0 where
+  pub number_is : number ≡ min (length records) 18446744073709551615
+  pub bytes_are : bytes ≡ last_spelling records
 
 -- a journal as its records: the disk, the settled ones, and the one in doubt
 pub record LogState (D : Type 0) : Type 0 where

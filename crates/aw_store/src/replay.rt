@@ -1,53 +1,59 @@
-ghost use Rattle.std.specs.Prelude.{◌≡◌, ◌≤◌, ◌<◌, ◌^◌, ◌++◌, ◌∷◌, [], ℕ, List as Items, length, map, nat_lt, All, None, Some, Ok, IsTrue, IfOk, IfErr, true, false};
-ghost use Rattle.std.specs.List.{list_all};
+ghost use Rattle.std.specs.Prelude.{◌≡◌, ◌≢◌, ◌≤◌, ◌<◌, ◌^◌, ◌++◌, ◌∷◌, [], ℕ, List as Items, length, map, MatchOption, All, Ok, IsTrue, IfOk, IfErr, true, false};
+ghost use Rattle.std.specs.Option.{is_none};
+ghost use Rattle.aw_schema.specs.Checking.{refusal};
+ghost use Rattle.aw_schema.specs.Definitions.{is_spellable};
 ghost use Rattle.aw_codec.specs.declared.record.Decoded.{Decoded};
 ghost use Rattle.aw_codec.specs.declared.record.Decoded.TheVariants.{Definitions, Commit};
-ghost use Rattle.aw_codec.specs.Records.{IsRecord, rise_from, are_distinct};
+ghost use Rattle.aw_codec.specs.Records.{IsRecord, IsDefinition};
 ghost use Rattle.aw_journal.specs.Format.{placed};
-ghost use Rattle.mv_core.specs.Workspace.{standing, opened};
-ghost use Rattle.mv_core.specs.Integers.{integers};
-ghost use Rattle.mv_core.specs.SharedStep.{committed_from, fresh_from};
-ghost use Rattle.aw_store.specs.Replay.{change_from};
-ghost use Rattle.aw_store.specs.Recorded.{record_from, IsNext};
-ghost use Rattle.aw_store.specs.Replaying.{can_follow, names_after, objects_after, Leave, IsReplay, IsNoNext, Taken, bytes_of, AreReplayed, Stops};
+ghost use Rattle.aw_store.specs.Replay as replay;
+ghost use Rattle.aw_store.specs.Replay.{are_accepted_after, can_replay};
+ghost use Rattle.aw_store.specs.Replaying.{Leave, IsNoNext, Taken, bytes_of, last_bytes, AreReplayed, Stops};
 
 use crate::NoMemory;
-use aw_cell::{Cell, Text};
+use aw_body::Change;
 use aw_codec::{BadRecord, Decoded, decode};
 use aw_journal::{LoadFault, Payload};
 use aw_lists::List;
-use mv_core::{Fresh, Object, Shared};
+use aw_schema::{Catalogue, Def, DefKind, SchemaFault};
+use mv_core::Shared;
 use std::alloc::{AllocError, Global};
-use std::collections::HashSet;
 
-/// What the records so far leave: the names, and the objects as they stand.
+/// The most bytes that a record has.
+const MOST: usize = 67_108_864;
+
+/// What the records so far leave: the catalogue, and the objects as they stand.
 #[derive(Drop)]
-struct Replayed {
-    names: Option<List<Text>>,
-    objects: Vec<Object<Cell>>,
+pub struct Replayed {
+    /// `None` before the record of the definitions.
+    pub catalogue: Option<Catalogue>,
+    pub shared: Shared,
 }
 
 impl Replayed {
     /// Before the first record.
-    fn new(alloc: Global) -> Replayed
-        ensures names { result.names ≡ None }
-        ensures objects { result.objects.items ≡ [] }
+    fn new(alloc: Global) -> Result<Replayed, NoMemory>
+        ensures { IfOk result (λ replayed. Leave [] replayed.catalogue replayed.shared) }
     {
-        Replayed {
-            names: None,
-            objects: Vec::new(alloc),
-        }
+        let none = Catalogue::new(alloc);
+        let shared = Shared::new(alloc, &none)?;
+        Ok(Replayed {
+            catalogue: None,
+            shared,
+        })
     }
 
     /// Replays the record that these bytes spell, or answers `false` where they spell none that can
     /// follow those so far.
     fn take(&mut self, alloc: Global, bytes: &[u8]) -> Result<bool, NoMemory>
-        requires { IsReplay self.old.names self.old.objects.items }
-        ensures taken { (records : Items Decoded) → Leave records self.old.names self.old.objects.items → result ≡ Ok true
-            → Taken records bytes.now self.new.names self.new.objects.items }
-        ensures refused { (records : Items Decoded) → Leave records self.old.names self.old.objects.items → result ≡ Ok false
+        ensures taken { (records : Items Decoded) → Leave records self.old.catalogue self.old.shared → length records < 2 ^ 62 → result ≡ Ok true
+            → Taken records bytes.now self.new.catalogue self.new.shared }
+        ensures refused { (records : Items Decoded) → Leave records self.old.catalogue self.old.shared → length records < 2 ^ 62 → result ≡ Ok false
             → IsNoNext records bytes.now }
     {
+        if bytes.len() > MOST {
+            return Ok(false);
+        }
         match decode(alloc, bytes) {
             Ok(next) => self.add(alloc, next),
             Err(BadRecord::At(_)) => Ok(false),
@@ -57,158 +63,142 @@ impl Replayed {
 
     /// Replays a record, or answers `false` where it can't follow those so far.
     fn add(&mut self, alloc: Global, next: Decoded) -> Result<bool, NoMemory>
-        requires ready { IsReplay self.old.names self.old.objects.items }
-        requires fits { IsRecord next }
-        ensures follows { IfOk result (λ follows. follows ≡ can_follow self.old.names next) }
-        ensures names { result ≡ Ok true → self.new.names ≡ names_after self.old.names next }
-        ensures objects { result ≡ Ok true → self.new.objects.items ≡ objects_after self.old.objects.items next }
+        requires { IsRecord next }
+        ensures follows { (records : Items Decoded) → Leave records self.old.catalogue self.old.shared → length records < 2 ^ 62
+            → IfOk result (λ follows. follows ≡ can_replay (records ++ next ∷ [])) }
+        ensures leave { (records : Items Decoded) → Leave records self.old.catalogue self.old.shared → length records < 2 ^ 62 → result ≡ Ok true
+            → Leave (records ++ next ∷ []) self.new.catalogue self.new.shared }
     {
         match next {
-            Decoded::Definitions(names) => self.define(alloc, names),
-            Decoded::Commit(changes) => Ok(self.commit(changes.as_slice())),
+            Decoded::Definitions(definitions) => self.define(alloc, definitions),
+            Decoded::Commit(changes) => self.commit(&changes),
         }
     }
 
-    fn define(&mut self, alloc: Global, names: List<Text>) -> Result<bool, NoMemory>
-        ensures follows { IfOk result (λ follows. follows ≡ can_follow self.old.names (Definitions names)) }
-        ensures names { result ≡ Ok true → self.new.names ≡ Some names }
-        ensures objects { result ≡ Ok true → self.new.objects.items ≡ standing integers (opened (length names)) }
+    fn define(&mut self, alloc: Global, definitions: List<Def>) -> Result<bool, NoMemory>
+        requires { IsRecord (Definitions definitions) }
+        ensures follows { (records : Items Decoded) → Leave records self.old.catalogue self.old.shared
+            → IfOk result (λ follows. follows ≡ can_replay (records ++ Definitions definitions ∷ [])) }
+        ensures leave { (records : Items Decoded) → Leave records self.old.catalogue self.old.shared → result ≡ Ok true
+            → Leave (records ++ Definitions definitions ∷ []) self.new.catalogue self.new.shared }
     {
-        if self.names.is_some() || names.len() > 4096 || !are_distinct(alloc, names.as_slice())? {
+        if self.catalogue.is_some() {
             return Ok(false);
         }
-        self.objects = first_objects(alloc, names.len() as u16)?;
-        self.names = Some(names);
-        Ok(true)
-    }
-
-    fn commit(&mut self, changes: &[(u16, Cell)]) -> bool
-        requires ready { IsReplay self.old.names self.old.objects.items }
-        requires rising { IsTrue (rise_from 0 changes.now) }
-        ensures follows { result ≡ can_follow self.old.names (Commit changes.now) }
-        ensures names { self.new.names ≡ self.old.names }
-        ensures objects { result ≡ true → self.new.objects.items ≡ committed_from integers 0 self.old.objects.items (map change_from changes.now) }
-    {
-        match &self.names {
-            Some(names) if are_among(changes, names.len()) => {
-                apply(&mut self.objects, changes);
-                true
+        if !are_replayed(definitions.as_slice()) {
+            return Ok(false);
+        }
+        match accepted(alloc, definitions)? {
+            Some(catalogue) => {
+                self.shared = Shared::new(alloc, &catalogue)?;
+                self.catalogue = Some(catalogue);
+                Ok(true)
             }
-            _ => false,
+            None => Ok(false),
         }
     }
+
+    fn commit(&mut self, changes: &List<Change>) -> Result<bool, NoMemory>
+        requires { IsRecord (Commit changes.now) }
+        ensures follows { (records : Items Decoded) → Leave records self.old.catalogue self.old.shared → length records < 2 ^ 62
+            → IfOk result (λ follows. follows ≡ can_replay (records ++ Commit changes.now ∷ [])) }
+        ensures leave { (records : Items Decoded) → Leave records self.old.catalogue self.old.shared → length records < 2 ^ 62 → result ≡ Ok true
+            → Leave (records ++ Commit changes.now ∷ []) self.new.catalogue self.new.shared }
+    {
+        self.shared.follow(changes)
+    }
 }
 
-/// The names and the shared state that the payloads of a journal leave. `Damaged`: the first that
-/// can't be replayed stands behind the gate at this offset. `NoMemory`: there is none for what they
-/// leave.
-pub fn restore(
-    alloc: Global,
-    payloads: &[Payload],
-) -> Result<(Option<List<Text>>, Shared), LoadFault>
+/// Replays the payloads of a journal, from the first on. `Damaged`: the first that can't be replayed
+/// stands behind the gate at this offset. `NoMemory`: there is none for what they leave.
+pub fn replay(alloc: Global, payloads: &[Payload]) -> Result<Replayed, LoadFault>
     requires { payloads.now ≡ placed 8 (map bytes_of payloads.now) }
-    ensures ok { IfOk result (λ restored. AreReplayed (map bytes_of payloads.now) restored.0 restored.1) }
+    ensures ok { IfOk result (λ replayed. AreReplayed (map bytes_of payloads.now) replayed.catalogue replayed.shared) }
     ensures err { IfErr result (λ fault. Stops fault (map bytes_of payloads.now)) }
 {
-    let Replayed { names, objects } = match replay(alloc, payloads) {
+    let mut replayed = match Replayed::new(alloc) {
         Ok(replayed) => replayed,
-        Err(fault) => return Err(fault),
+        Err(_) => return Err(LoadFault::NoMemory),
     };
-    match restore_objects(alloc, objects.as_slice()) {
-        Ok(shared) => Ok((names, shared)),
-        Err(_) => Err(LoadFault::NoMemory),
-    }
-}
-
-// These objects as a shared state.
-fn restore_objects(alloc: Global, objects: &[Object<Cell>]) -> Result<Shared, NoMemory>
-    requires few { length objects.now < 65536 }
-    requires free { All (λ it. it.owner ≡ None) objects.now }
-    ensures { IfOk result (λ shared. shared ≡ objects.now) }
-{
-    let latest = latest(alloc, objects)?;
-    Shared::restored(latest)
-}
-
-// The latest generation of every object.
-fn latest(alloc: Global, objects: &[Object<Cell>]) -> Result<List<Fresh>, NoMemory>
-    requires { length objects.now ≤ 65536 }
-    ensures { IfOk result (λ fresh. fresh ≡ fresh_from 0 objects.now) }
-{
-    let mut latest = Vec::with_capacity(alloc, objects.len())?;
-    for (at, it) in objects.iter().enumerate() {
-        latest.push(Fresh {
-            object: at as u16,
-            number: it.number,
-            cell: it.body,
-        })?;
-    }
-    Ok(List::from_vec(latest))
-}
-
-// Replays the payloads of a journal, from the first on.
-fn replay(alloc: Global, payloads: &[Payload]) -> Result<Replayed, LoadFault>
-    requires { payloads.now ≡ placed 8 (map bytes_of payloads.now) }
-    ensures ok { IfOk result (λ replay. AreReplayed (map bytes_of payloads.now) replay.names replay.objects.items) }
-    ensures err { IfErr result (λ fault. Stops fault (map bytes_of payloads.now)) }
-{
-    let mut replay = Replayed::new(alloc);
     for payload in payloads {
-        match replay.take(alloc, payload.bytes.as_slice()) {
+        match replayed.take(alloc, payload.bytes.as_slice()) {
             Ok(true) => {}
             Ok(false) => return Err(LoadFault::Damaged(payload.offset)),
             Err(_) => return Err(LoadFault::NoMemory),
         }
     }
-    Ok(replay)
+    Ok(replayed)
 }
 
-// Whether each change is of one of so many objects.
-fn are_among(changes: &[(u16, Cell)], objects: usize) -> bool
-    ensures { result ≡ list_all (λ c. nat_lt c.0 objects) changes.now }
+/// The bytes of the last payload, or none where there is none.
+pub fn last_of(alloc: Global, payloads: List<Payload>) -> List<u8>
+    ensures { result ≡ last_bytes (map bytes_of payloads) }
 {
-    changes.iter().all(|c| usize::from(c.0) < objects)
-}
-
-// So many objects, each with its first generation.
-fn first_objects(alloc: Global, objects: u16) -> Result<Vec<Object<Cell>>, NoMemory>
-    ensures { IfOk result (λ made. made.items ≡ standing integers (opened objects)) }
-{
-    let mut made = Vec::new(alloc);
-    for _ in 0..objects {
-        made.push(Object {
-            number: 1,
-            body: Cell::Na,
-            owner: None,
-        })?;
-    }
-    Ok(made)
-}
-
-// Makes the changes of a commit.
-fn apply(objects: &mut [Object<Cell>], changes: &[(u16, Cell)])
-    requires rising { IsTrue (rise_from 0 changes.now) }
-    requires within { IsTrue (list_all (λ c. nat_lt c.0 (length objects.old)) changes.now) }
-    requires low { All (λ it. it.number < 2 ^ 63) objects.old }
-    ensures { objects.new ≡ committed_from integers 0 objects.old (map change_from changes.now) }
-{
-    for change in changes {
-        let it = &mut objects[usize::from(change.0)];
-        it.number += 1;
-        it.body = change.1;
+    let mut payloads = payloads.into_vec();
+    match payloads.pop() {
+        Some(payload) => payload.bytes,
+        None => List::new(alloc),
     }
 }
 
-// Whether no two names are the same without regard to case.
-fn are_distinct(alloc: Global, names: &[Text]) -> Result<bool, NoMemory>
-    ensures { IfOk result (λ distinct. distinct ≡ are_distinct names.now) }
+/// Whether all definitions are of kinds that can be replayed.
+fn are_replayed(definitions: &[Def]) -> bool
+    ensures { result ≡ replay.are_replayed definitions.now }
 {
-    let mut seen: HashSet<Vec<u8>> = HashSet::new(alloc);
-    for name in names {
-        let lowered = name.bytes().to_ascii_lowercase(alloc)?;
-        if !seen.insert(lowered)? {
-            return Ok(false);
+    definitions.iter().all(is_replayed)
+}
+
+fn is_replayed(def: &Def) -> bool
+    ensures { result ≡ replay.is_replayed def.now.kind }
+{
+    match &def.kind {
+        DefKind::Dimension
+        | DefKind::Relation { .. }
+        | DefKind::Valueset { .. }
+        | DefKind::Variable { .. } => true,
+        DefKind::Formula { .. } | DefKind::Program { .. } | DefKind::Aggmap { .. } => false,
+    }
+}
+
+/// The definitions as a catalogue, where each is accepted after those before it.
+fn accepted(alloc: Global, definitions: List<Def>) -> Result<Option<Catalogue>, NoMemory>
+    requires { All IsDefinition definitions }
+    ensures { IfOk result (λ found. MatchOption found
+        (are_accepted_after [] definitions ≡ false)
+        (λ catalogue. (are_accepted_after [] definitions ≡ true) × (catalogue ≡ definitions))) }
+{
+    let mut catalogue = Catalogue::new(alloc);
+    for def in definitions.into_vec() {
+        match accept(&mut catalogue, def) {
+            Ok(true) => {}
+            Ok(false) => return Ok(None),
+            Err(none) => return Err(none),
         }
     }
-    Ok(true)
+    Ok(Some(catalogue))
+}
+
+/// Accepts a definition as the next one, or answers `false` where it is refused.
+fn accept(catalogue: &mut Catalogue, def: Def) -> Result<bool, NoMemory>
+    requires { IsTrue (is_spellable def) }
+    ensures accepted { IfOk result (λ accepted. accepted ≡ is_none (refusal catalogue.old def)) }
+    ensures after { result ≡ Ok true → catalogue.new ≡ catalogue.old ++ def ∷ [] }
+{
+    match catalogue.check(def) {
+        Ok(_) => Ok(true),
+        Err(fault) => {
+            if is_refusal(&fault) {
+                Ok(false)
+            } else {
+                Err(AllocError)
+            }
+        }
+    }
+}
+
+/// Whether a definition was refused, and memory didn't run out.
+fn is_refusal(fault: &SchemaFault) -> bool
+    ensures { IsTrue result → fault.now ≢ SchemaFault.NoMemory }
+{
+    !matches!(fault, SchemaFault::NoMemory)
 }

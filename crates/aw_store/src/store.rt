@@ -1,27 +1,33 @@
-ghost use Rattle.std.specs.Prelude.{◌≡◌, ◌≢◌, ◌⊎◌, ◌≤◌, ◌<◌, ◌++◌, ◌∷◌, [], ℕ, List, length, map, slice_get, None, Some, IsSome, IfSome, IfOk, OnOk, IfErr, OnErr, IsTrue, Ok, Err, unwrap_or};
-ghost use Rattle.std.specs.Option.{option_copied};
+ghost use Rattle.std.specs.Prelude.{◌≡◌, ◌≢◌, ◌⊎◌, ◌≤◌, ◌<◌, ◌++◌, ◌∷◌, [], ℕ, List as Items, length, min, None, Some, IsSome, IfSome, IfOk, OnOk, IfErr, OnErr, IsTrue, Ok, Err, unwrap_or};
+ghost use Rattle.std.specs.Option.{is_some, option_copied};
 ghost use Rattle.aw_lists.specs.Faults.{Rose};
-ghost use Rattle.aw_codec.specs.Records.{AreDefinable, AreCommittable};
+ghost use Rattle.aw_schema.specs.RecordLength.{record_len};
+ghost use Rattle.aw_body.specs.declared.body.Body.{Body as BodyValue};
+ghost use Rattle.aw_body.specs.KeptBodies.{bodies_of, bodies_from};
+ghost use Rattle.aw_body.specs.Owners.{Owners};
+ghost use Rattle.aw_codec.specs.Records.{spelled, IsRecord, FitsPayload};
+ghost use Rattle.aw_schema.specs.Checking.{AreAccepted};
 ghost use Rattle.aw_codec.specs.declared.record.Decoded.TheVariants.{Definitions};
 ghost use Rattle.aw_journal.specs.Loads.{IsAnswered};
 ghost use Rattle.aw_journal.specs.Passed.{Passed};
-ghost use Rattle.mv_core.specs.declared.entry.Change.{Change};
-ghost use Rattle.mv_core.specs.declared.entry.Reply.TheVariants.{Fault};
-ghost use Rattle.mv_core.specs.Workspace.{Workspace, standing, opened};
-ghost use Rattle.mv_core.specs.Integers.{integers};
-ghost use Rattle.aw_store.specs.Replay.{can_replay, names_of, workspace_of, pair_from, commit_record};
+ghost use Rattle.mv_core.specs.declared.entry.Reply.TheVariants as answer;
+ghost use Rattle.mv_core.specs.Lookups.{kept_at};
+ghost use Rattle.mv_core.specs.Objects.{IsTable};
+ghost use Rattle.mv_core.specs.Workspace.{Workspace, opened, table_of};
+ghost use Rattle.aw_store.specs.Replay.{are_replayed, can_replay, definitions_of, stood_by};
 ghost use Rattle.aw_store.specs.Images.{AreRecords, HoldsRecords, HoldsSomeRecords, LeftRecords, IsDamaged, IsRefused};
-ghost use Rattle.aw_store.specs.Stores.{record_of, Doubts, Writes, Acts, IsToWrite, IsLegalOnDisk};
+ghost use Rattle.aw_store.specs.Recorded.{last_spelling};
+ghost use Rattle.aw_store.specs.Stores.{record_of, AsksFor, IsGranted, Doubts, Writes, Acts, IsLegalOnDisk};
 
-use crate::NoMemory;
 use crate::record_log::{RecordLog, Unwritten};
-use crate::replay::restore;
-use aw_cell::{Cell, Text};
-use aw_codec::{encode_catalogue, encode_commit};
+use crate::replay::{last_of, replay};
+use aw_body::{Body, Change};
+use aw_codec::{CodeLong, encode_catalogue, encode_commit};
 use aw_disk::Disk;
 use aw_journal::{Journal, LoadFault};
 use aw_lists::List;
-use mv_core::{Change, Entry, Ready, Reply, Shared};
+use aw_schema::Catalogue;
+use mv_core::{Entry, Reply, Shared};
 use std::alloc::Global;
 use std::marker::Model;
 
@@ -39,12 +45,12 @@ pub enum StoreFault {
 /// The shared state of a workspace, and the disk that its records stand on.
 ///
 /// A caller sees the disk, the settled records, the record in doubt after a disk fault, and the
-/// objects as they stand (docs/SHARING.md, "On a disk").
+/// definitions and objects as they stand (docs/SHARING.md, "On a disk").
 #[derive(Drop)]
 pub struct Store<D: Disk> {
     alloc: Global,
     log: RecordLog<D>,
-    names: Option<List<Text>>,
+    catalogue: Option<Catalogue>,
     shared: Shared,
 }
 
@@ -57,10 +63,10 @@ impl<D: Disk> Model for Store<D> {
       disk = store.log.disk;
       records = store.log.records;
       doubt = store.log.doubt;
-      objects = store.shared;
+      table = store.shared;
     } };
 
-    ghost invariant = { λ store. StandFor store.log.records store.names store.shared };
+    ghost invariant = { λ store. StandFor store.log.records store.catalogue store.shared };
 }
 
 impl<D: Disk> Store<D> {
@@ -72,7 +78,7 @@ impl<D: Disk> Store<D> {
     /// `NoMemory`: there is none for what the records leave.
     pub fn load(alloc: Global, disk: D) -> Result<Store<D>, (LoadFault, D)>
         ensures holds { IfOk result (λ store. IfSome (D.content disk) (λ image. HoldsRecords image store.records)) }
-        ensures opened { IfOk result (λ store. (store.doubt ≡ None) × (store.objects ≡ standing integers (workspace_of store.records []))) }
+        ensures opened { IfOk result (λ store. (store.doubt ≡ None) × (store.table ≡ stood_by store.records [])) }
         ensures content { IfOk result (λ store. D.content store.disk ≡ D.content disk) }
         ensures refused_content { IfErr result (λ refused. D.content refused.1 ≡ D.content disk) }
         ensures moments { IfOk result (λ store. Passed (D.clock disk) (D.clock store.disk) (D.crash disk) (D.crash store.disk) (D.crash disk (D.clock disk))) }
@@ -90,7 +96,7 @@ impl<D: Disk> Store<D> {
     // Reads and replays the records of a disk.
     fn replayed(alloc: Global, disk: D) -> Result<Store<D>, (LoadFault, D)>
         ensures holds { IfOk result (λ store. IfSome (D.content disk) (λ image. HoldsRecords image store.records)) }
-        ensures opened { IfOk result (λ store. (store.doubt ≡ None) × (store.objects ≡ standing integers (workspace_of store.records []))) }
+        ensures opened { IfOk result (λ store. (store.doubt ≡ None) × (store.table ≡ stood_by store.records [])) }
         ensures content { IfOk result (λ store. D.content store.disk ≡ D.content disk) }
         ensures refused_content { IfErr result (λ refused. D.content refused.1 ≡ D.content disk) }
         ensures moments { IfOk result (λ store. Passed (D.clock disk) (D.clock store.disk) (D.crash disk) (D.crash store.disk) (D.crash disk (D.clock disk))) }
@@ -105,76 +111,82 @@ impl<D: Disk> Store<D> {
             Ok(loaded) => loaded,
             Err(refused) => return Err(refused),
         };
-        match restore(alloc, payloads.as_slice()) {
-            Ok((names, shared)) => Ok(Store {
+        let number = payloads.len() as u64;
+        match replay(alloc, payloads.as_slice()) {
+            Ok(replayed) => Ok(Store {
                 alloc,
-                log: RecordLog::new(journal),
-                names,
-                shared,
+                log: RecordLog::new(journal, number, last_of(alloc, payloads)),
+                catalogue: replayed.catalogue,
+                shared: replayed.shared,
             }),
             Err(fault) => Err((fault, journal.into_disk())),
         }
     }
 
     /// What holds between two calls: each record has a spelling, the records can be replayed, the
-    /// objects stand as their commits left them, and a crash now leaves the settled records, or these
-    /// and the one in doubt.
+    /// definitions are those of the records, the objects stand as their commits left them, each body in
+    /// the form of its definition, and a crash now leaves the settled records, or these and the one in doubt.
     pub fn stands(&self)
         ensures spellings { AreRecords self.now.records }
         ensures replayable { IsTrue (can_replay self.now.records) }
-        ensures objects { (owners : List (ℕ × ℕ)) × (self.now.objects ≡ standing integers (workspace_of self.now.records owners)) }
-        ensures sized { length self.now.objects ≡ length (unwrap_or (names_of self.now.records) []) }
-        ensures images { (image : List ℕ) → D.crash self.now.disk (D.clock self.now.disk) image → LeftRecords self.now.records self.now.doubt image }
+        ensures table { (owners : Owners) × (self.now.table ≡ stood_by self.now.records owners) }
+        ensures definitions { self.now.table.definitions ≡ unwrap_or (definitions_of self.now.records) [] }
+        ensures forms { IsTable self.now.table.definitions self.now.table.objects }
+        ensures images { (image : Items ℕ) → D.crash self.now.disk (D.clock self.now.disk) image → LeftRecords self.now.records self.now.doubt image }
     {
         self.log.leaves();
+        let _ = self.shared.keeps(0);
     }
 
-    /// Writes the definitions of these names, as an act whose record they are, and gives each object its
-    /// first generation. `Defined`: there are definitions already. `DiskFault`: the disk failed, and a
+    /// Writes the definitions of a catalogue, as an act whose record they are, and gives each kept object
+    /// its first generation. The record has up to 67,108,864 bytes, and the definitions are of kinds that
+    /// can be replayed. `Defined`: there are definitions already. `DiskFault`: the disk failed, and a
     /// crash may leave the definitions or not. `NoMemory`: there is none, and nothing was done.
-    pub fn define(&mut self, names: List<Text>) -> Result<(), StoreFault>
-        requires { AreDefinable names }
-        ensures defined { (result ≡ Err StoreFault.Defined) → IsSome (names_of self.old.records) }
-        ensures there { IsSome (names_of self.old.records) → result ≡ Err StoreFault.Defined }
-        ensures ok { OnOk result ((names_of self.old.records ≡ None) × Writes (Definitions names) self.old self.new × (self.new.objects ≡ standing integers (opened (length names)))) }
-        ensures fault { result ≡ Err StoreFault.DiskFault → (names_of self.old.records ≡ None) × Doubts (Definitions names) self.old self.new }
+    pub fn define(&mut self, catalogue: Catalogue) -> Result<(), StoreFault>
+        requires size { record_len catalogue ≤ 67108864 }
+        requires kinds { IsTrue (are_replayed catalogue) }
+        ensures defined { (result ≡ Err StoreFault.Defined) → IsSome (definitions_of self.old.records) }
+        ensures there { IsSome (definitions_of self.old.records) → result ≡ Err StoreFault.Defined }
+        ensures ok { OnOk result ((definitions_of self.old.records ≡ None) × Writes (Definitions catalogue) self.old self.new × (self.new.table ≡ table_of (bodies_of catalogue) (opened catalogue))) }
+        ensures fault { result ≡ Err StoreFault.DiskFault → (definitions_of self.old.records ≡ None) × Doubts (Definitions catalogue) self.old self.new }
         ensures same { (result ≡ Err StoreFault.Defined) ⊎ (result ≡ Err StoreFault.NoMemory) → self.new ≡ self.old }
         ensures moments { Passed (D.clock self.old.disk) (D.clock self.new.disk) (D.crash self.old.disk) (D.crash self.new.disk)
-            (λ image. LeftRecords self.old.records self.old.doubt image ⊎ HoldsRecords image (self.old.records ++ Definitions names ∷ [])) }
-        ensures images { (image : List ℕ) → D.crash self.new.disk (D.clock self.new.disk) image → LeftRecords self.new.records self.new.doubt image }
+            (λ image. LeftRecords self.old.records self.old.doubt image ⊎ HoldsRecords image (self.old.records ++ Definitions catalogue ∷ [])) }
+        ensures images { (image : Items ℕ) → D.crash self.new.disk (D.clock self.new.disk) image → LeftRecords self.new.records self.new.doubt image }
         ensures later { D.faults self.old.disk ≤ D.faults self.new.disk }
         ensures cause { result ≡ Err StoreFault.DiskFault → Rose (D.faults self.old.disk) (D.faults self.new.disk) }
     {
         self.log.leaves();
-        let defined = self.put_names(names);
+        let defined = self.put_definitions(catalogue);
         self.log.leaves();
         defined
     }
 
-    fn put_names(&mut self, names: List<Text>) -> Result<(), StoreFault>
-        requires definable { AreDefinable names }
-        requires images { (image : List ℕ) → D.crash self.old.disk (D.clock self.old.disk) image → LeftRecords self.old.records self.old.doubt image }
-        ensures defined { (result ≡ Err StoreFault.Defined) → IsSome (names_of self.old.records) }
-        ensures there { IsSome (names_of self.old.records) → result ≡ Err StoreFault.Defined }
-        ensures ok { OnOk result ((names_of self.old.records ≡ None) × Writes (Definitions names) self.old self.new × (self.new.objects ≡ standing integers (opened (length names)))) }
-        ensures fault { result ≡ Err StoreFault.DiskFault → (names_of self.old.records ≡ None) × Doubts (Definitions names) self.old self.new }
+    fn put_definitions(&mut self, catalogue: Catalogue) -> Result<(), StoreFault>
+        requires size { record_len catalogue ≤ 67108864 }
+        requires kinds { IsTrue (are_replayed catalogue) }
+        requires images { (image : Items ℕ) → D.crash self.old.disk (D.clock self.old.disk) image → LeftRecords self.old.records self.old.doubt image }
+        ensures defined { (result ≡ Err StoreFault.Defined) → IsSome (definitions_of self.old.records) }
+        ensures there { IsSome (definitions_of self.old.records) → result ≡ Err StoreFault.Defined }
+        ensures ok { OnOk result ((definitions_of self.old.records ≡ None) × Writes (Definitions catalogue) self.old self.new × (self.new.table ≡ table_of (bodies_of catalogue) (opened catalogue))) }
+        ensures fault { result ≡ Err StoreFault.DiskFault → (definitions_of self.old.records ≡ None) × Doubts (Definitions catalogue) self.old self.new }
         ensures same { (result ≡ Err StoreFault.Defined) ⊎ (result ≡ Err StoreFault.NoMemory) → self.new ≡ self.old }
         ensures moments { Passed (D.clock self.old.disk) (D.clock self.new.disk) (D.crash self.old.disk) (D.crash self.new.disk)
-            (λ image. LeftRecords self.old.records self.old.doubt image ⊎ HoldsRecords image (self.old.records ++ Definitions names ∷ [])) }
+            (λ image. LeftRecords self.old.records self.old.doubt image ⊎ HoldsRecords image (self.old.records ++ Definitions catalogue ∷ [])) }
         ensures later { D.faults self.old.disk ≤ D.faults self.new.disk }
         ensures cause { result ≡ Err StoreFault.DiskFault → Rose (D.faults self.old.disk) (D.faults self.new.disk) }
     {
-        if self.names.is_some() {
+        if self.catalogue.is_some() {
             return Err(StoreFault::Defined);
         }
-        let shared = match Shared::new(self.alloc, names.len() as u16) {
-            Ok(shared) => shared,
+        let (shared, bytes) = match first_objects(self.alloc, &catalogue) {
+            Ok(made) => made,
             Err(_) => return Err(StoreFault::NoMemory),
         };
-        match write_definitions(self.alloc, &mut self.log, &names) {
+        match self.log.write(bytes) {
             Ok(()) => {
                 self.shared = shared;
-                self.names = Some(names);
+                self.catalogue = Some(catalogue);
                 Ok(())
             }
             Err(Unwritten::DiskFault) => Err(StoreFault::DiskFault),
@@ -184,17 +196,20 @@ impl<D: Disk> Store<D> {
 
     /// Answers an entry by the shared step, and writes the record of a commit with changes that is
     /// granted, after a repair where a record is in doubt (docs/SHARING.md, "On a disk"). All memory is
-    /// taken before the first disk call. `Fault`: the disk failed in such a commit, and a crash may leave
-    /// it or not. `NoMemory`: there is none, and nothing was done.
+    /// taken before the first disk call, and `Release` and `Detach` take none. `TooLarge`: the record of
+    /// such a commit has more than 67,108,864 bytes, and nothing was done. `Fault`: the disk failed in
+    /// such a commit, and a crash may leave it or not. `NoMemory`: there is none, and nothing was done.
     pub fn act(&mut self, entry: &Entry) -> Reply
         ensures acts { Acts entry.now result self.old self.new }
-        ensures step { (w : Workspace Change) → self.old.objects ≡ standing integers w
-            → IsLegalOnDisk w entry.now result self.new.objects }
+        ensures step { (w : Workspace) (numbers : ℕ → ℕ) (firsts : ℕ → BodyValue) → self.old.table ≡ table_of (bodies_from w.definitions numbers firsts) w
+            → IsLegalOnDisk (bodies_from w.definitions numbers firsts) w entry.now result self.new.table }
+        ensures too_large { IsGranted entry.now self.old.table → 67108864 < length (spelled (record_of entry.now))
+            → (result ≡ answer.NoMemory) ⊎ (result ≡ answer.TooLarge (min (length (spelled (record_of entry.now))) 18446744073709551615)) }
         ensures moments { Passed (D.clock self.old.disk) (D.clock self.new.disk) (D.crash self.old.disk) (D.crash self.new.disk)
             (λ image. LeftRecords self.old.records self.old.doubt image ⊎ HoldsRecords image (self.old.records ++ record_of entry.now ∷ [])) }
-        ensures images { (image : List ℕ) → D.crash self.new.disk (D.clock self.new.disk) image → LeftRecords self.new.records self.new.doubt image }
+        ensures images { (image : Items ℕ) → D.crash self.new.disk (D.clock self.new.disk) image → LeftRecords self.new.records self.new.doubt image }
         ensures later { D.faults self.old.disk ≤ D.faults self.new.disk }
-        ensures cause { result ≡ Fault → Rose (D.faults self.old.disk) (D.faults self.new.disk) }
+        ensures cause { result ≡ answer.Fault → Rose (D.faults self.old.disk) (D.faults self.new.disk) }
     {
         self.log.leaves();
         let reply = self.answer(entry);
@@ -203,49 +218,94 @@ impl<D: Disk> Store<D> {
     }
 
     fn answer(&mut self, entry: &Entry) -> Reply
-        requires { (image : List ℕ) → D.crash self.old.disk (D.clock self.old.disk) image → LeftRecords self.old.records self.old.doubt image }
+        requires { (image : Items ℕ) → D.crash self.old.disk (D.clock self.old.disk) image → LeftRecords self.old.records self.old.doubt image }
         ensures acts { Acts entry.now result self.old self.new }
         ensures moments { Passed (D.clock self.old.disk) (D.clock self.new.disk) (D.crash self.old.disk) (D.crash self.new.disk)
             (λ image. LeftRecords self.old.records self.old.doubt image ⊎ HoldsRecords image (self.old.records ++ record_of entry.now ∷ [])) }
         ensures later { D.faults self.old.disk ≤ D.faults self.new.disk }
-        ensures cause { result ≡ Fault → Rose (D.faults self.old.disk) (D.faults self.new.disk) }
+        ensures cause { result ≡ answer.Fault → Rose (D.faults self.old.disk) (D.faults self.new.disk) }
+    {
+        match changes_of(entry) {
+            Some(changes) => self.commit(entry, changes),
+            None => self.shared.act(entry),
+        }
+    }
+
+    // Answers an entry with these changes to make, and writes their record where it is granted.
+    fn commit(&mut self, entry: &Entry, changes: &List<Change>) -> Reply
+        requires asked { AsksFor entry.now (Some changes.now) }
+        requires images { (image : Items ℕ) → D.crash self.old.disk (D.clock self.old.disk) image → LeftRecords self.old.records self.old.doubt image }
+        ensures acts { Acts entry.now result self.old self.new }
+        ensures moments { Passed (D.clock self.old.disk) (D.clock self.new.disk) (D.crash self.old.disk) (D.crash self.new.disk)
+            (λ image. LeftRecords self.old.records self.old.doubt image ⊎ HoldsRecords image (self.old.records ++ record_of entry.now ∷ [])) }
+        ensures later { D.faults self.old.disk ≤ D.faults self.new.disk }
+        ensures cause { result ≡ answer.Fault → Rose (D.faults self.old.disk) (D.faults self.new.disk) }
     {
         let ready = match self.shared.prepare(entry) {
             Ok(ready) => ready,
             Err(_) => return Reply::NoMemory,
         };
-        match changes_to_write(entry, &ready) {
-            Some(changes) => match write_commit(self.alloc, &mut self.log, changes) {
-                Ok(()) => self.shared.settle(ready),
-                Err(Unwritten::DiskFault) => Reply::Fault,
-                Err(Unwritten::NoMemory) => Reply::NoMemory,
-            },
-            None => self.shared.settle(ready),
+        if !ready.writes() {
+            return self.shared.settle(ready);
+        }
+        let bytes = match encode_commit(self.alloc, changes) {
+            Ok(bytes) => bytes,
+            Err(CodeLong::TooLarge(bytes)) => return Reply::TooLarge { bytes },
+            Err(CodeLong::NoMemory) => return Reply::NoMemory,
+        };
+        match self.log.write(bytes) {
+            Ok(()) => self.shared.settle(ready),
+            Err(Unwritten::DiskFault) => Reply::Fault,
+            Err(Unwritten::NoMemory) => Reply::NoMemory,
         }
     }
 
-    /// An object's latest number and its owner.
+    /// Whether an object is kept, and so has generations. It takes no memory.
+    pub fn keeps(&self, object: u16) -> bool
+        ensures { result ≡ is_some (kept_at self.now.table.objects object) }
+    {
+        self.shared.keeps(object)
+    }
+
+    /// The latest number of a kept object, and its owner. It takes no memory.
     pub fn look(&self, object: u16) -> (u64, Option<u32>)
-        requires { object < length self.now.objects }
-        ensures { IfSome (slice_get self.now.objects object) (λ it. result ≡ (it.number, it.owner)) }
+        requires { IsSome (kept_at self.now.table.objects object) }
+        ensures { IfSome (kept_at self.now.table.objects object) (λ it. result ≡ (it.number, it.owner)) }
     {
         self.shared.look(object)
     }
 
-    /// The body of an object's latest generation.
-    pub fn body(&self, object: u16) -> Cell
-        requires { object < length self.now.objects }
-        ensures { IfSome (slice_get self.now.objects object) (λ it. result ≡ it.body) }
+    /// The body of the latest generation of a kept object. It takes no memory.
+    pub fn body(&self, object: u16) -> &Body
+        requires { IsSome (kept_at self.now.table.objects object) }
+        ensures { IfSome (kept_at self.now.table.objects object) (λ it. result.now ≡ it.body) }
     {
         self.shared.body(object)
     }
 
-    /// The names of the objects in order of definition, or `None` where nothing is defined yet.
-    pub fn names(&self) -> Option<&List<Text>>
-        ensures value { option_copied result ≡ names_of self.now.records }
-        ensures sized { IfSome result (λ names. length names.now ≡ length self.now.objects) }
+    /// The catalogue of the definitions, or `None` where nothing is defined yet. It takes no memory.
+    pub fn catalogue(&self) -> Option<&Catalogue>
+        ensures value { option_copied result ≡ definitions_of self.now.records }
+        ensures table { IfSome result (λ catalogue. catalogue.now ≡ self.now.table.definitions) }
     {
-        self.names.as_ref()
+        self.catalogue.as_ref()
+    }
+
+    /// How many records are settled, up to 2^64-1, and the bytes of the last one: 0 and nothing where
+    /// there is none. It takes no memory.
+    pub fn last_payload(&self) -> (u64, &[u8])
+        ensures number { result.0 ≡ min (length self.now.records) 18446744073709551615 }
+        ensures bytes { result.1.now ≡ last_spelling self.now.records }
+    {
+        self.log.last_payload()
+    }
+
+    /// The offset of the first gate, in bytes from the disk's start (docs/FORMATS.md, "The journal").
+    pub fn start(&self) -> u64
+        ensures { result ≡ 8 }
+    {
+        let _ = &self.log;
+        8
     }
 
     /// The disk, to be read.
@@ -264,79 +324,37 @@ impl<D: Disk> Store<D> {
     }
 }
 
-// The changes of which a prepared entry writes a record, where it does.
-fn changes_to_write<'a>(entry: &'a Entry, ready: &Ready) -> Option<&'a [Change]>
-    requires { ready.now.entry ≡ entry.now }
-    ensures { IsToWrite entry.now ready.now.reply (option_copied result) }
+// The changes that an entry asks to make, where it is a commit that has some.
+fn changes_of(entry: &Entry) -> Option<&List<Change>>
+    ensures { AsksFor entry.now (option_copied result) }
 {
-    if !ready.writes() {
-        return None;
-    }
     match entry {
-        Entry::Commit { changes, .. } => Some(changes.as_slice()),
-        Entry::Attach { .. } | Entry::Acquire { .. } => None,
+        Entry::Commit { changes, .. } => {
+            if changes.is_empty() {
+                None
+            } else {
+                Some(changes)
+            }
+        }
+        Entry::Attach { .. }
+        | Entry::Acquire { .. }
+        | Entry::Resync { .. }
+        | Entry::Release { .. }
+        | Entry::Detach { .. } => None,
     }
 }
 
-// Writes the record of definitions.
-fn write_definitions<D: Disk>(
-    alloc: Global,
-    log: &mut RecordLog<D>,
-    names: &List<Text>,
-) -> Result<(), Unwritten>
-    requires definable { AreDefinable names.now }
-    requires replayable { IsTrue (can_replay (log.old.records ++ Definitions names.now ∷ [])) }
-    ensures ok { OnOk result (log.new ≡ record { disk = log.new.disk; records = log.old.records ++ Definitions names.now ∷ []; doubt = None }) }
-    ensures memory { result ≡ Err Unwritten.NoMemory → log.new ≡ log.old }
-    ensures fault { result ≡ Err Unwritten.DiskFault → (log.new.records ≡ log.old.records) × ((log.new.doubt ≡ log.old.doubt) ⊎ (log.new.doubt ≡ Some (Definitions names.now))) }
-    ensures moments { Passed (D.clock log.old.disk) (D.clock log.new.disk) (D.crash log.old.disk) (D.crash log.new.disk)
-        (λ image. LeftRecords log.old.records log.old.doubt image ⊎ HoldsRecords image (log.old.records ++ Definitions names.now ∷ [])) }
-    ensures later { D.faults log.old.disk ≤ D.faults log.new.disk }
-    ensures cause { result ≡ Err Unwritten.DiskFault → Rose (D.faults log.old.disk) (D.faults log.new.disk) }
+// The objects of a catalogue with their first generations, and the bytes of its record.
+fn first_objects(alloc: Global, catalogue: &Catalogue) -> Result<(Shared, List<u8>), CodeLong>
+    requires { record_len catalogue.now ≤ 67108864 }
+    ensures objects { IfOk result (λ made. made.0 ≡ table_of (bodies_of catalogue.now) (opened catalogue.now)) }
+    ensures bytes { IfOk result (λ made. made.1 ≡ spelled (Definitions catalogue.now)) }
+    ensures record { OnOk result (IsRecord (Definitions catalogue.now)) }
+    ensures payload { IfOk result (λ made. FitsPayload made.1) }
+    ensures accepted { AreAccepted catalogue.now }
 {
-    log.leaves();
-    match encode_catalogue(alloc, names) {
-        Ok(bytes) => log.write(bytes.as_slice()),
-        Err(_) => Err(Unwritten::NoMemory),
-    }
-}
-
-// Writes the record of a commit.
-fn write_commit<D: Disk>(
-    alloc: Global,
-    log: &mut RecordLog<D>,
-    changes: &[Change],
-) -> Result<(), Unwritten>
-    requires committable { AreCommittable (map pair_from changes.now) }
-    requires replayable { IsTrue (can_replay (log.old.records ++ commit_record changes.now ∷ [])) }
-    ensures ok { OnOk result (log.new ≡ record { disk = log.new.disk; records = log.old.records ++ commit_record changes.now ∷ []; doubt = None }) }
-    ensures memory { result ≡ Err Unwritten.NoMemory → log.new ≡ log.old }
-    ensures fault { result ≡ Err Unwritten.DiskFault → (log.new.records ≡ log.old.records) × ((log.new.doubt ≡ log.old.doubt) ⊎ (log.new.doubt ≡ Some (commit_record changes.now))) }
-    ensures moments { Passed (D.clock log.old.disk) (D.clock log.new.disk) (D.crash log.old.disk) (D.crash log.new.disk)
-        (λ image. LeftRecords log.old.records log.old.doubt image ⊎ HoldsRecords image (log.old.records ++ commit_record changes.now ∷ [])) }
-    ensures later { D.faults log.old.disk ≤ D.faults log.new.disk }
-    ensures cause { result ≡ Err Unwritten.DiskFault → Rose (D.faults log.old.disk) (D.faults log.new.disk) }
-{
-    log.leaves();
-    let pairs = match pairs_of(alloc, changes) {
-        Ok(pairs) => List::from_vec(pairs),
-        Err(_) => return Err(Unwritten::NoMemory),
-    };
-    match encode_commit(alloc, &pairs) {
-        Ok(bytes) => log.write(bytes.as_slice()),
-        Err(_) => Err(Unwritten::NoMemory),
-    }
-}
-
-fn pair_from(change: &Change) -> (u16, Cell)
-    ensures { result ≡ pair_from change.now }
-{
-    (change.object, change.cell)
-}
-
-// The changes as the record of their commit has them.
-fn pairs_of(alloc: Global, changes: &[Change]) -> Result<Vec<(u16, Cell)>, NoMemory>
-    ensures { IfOk result (λ pairs. pairs.items ≡ map pair_from changes.now) }
-{
-    changes.iter().map(pair_from).collect(alloc)
+    let _ = catalogue.len();
+    let shared = Shared::new(alloc, catalogue)?;
+    let bytes = encode_catalogue(alloc, catalogue)?;
+    Ok((shared, bytes))
 }

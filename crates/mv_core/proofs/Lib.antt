@@ -1,2 +1,9 @@
-pub mod Applying
-pub mod Refusals
+mod Each
+mod Forms
+mod Making
+mod Blocking
+mod Prepares
+mod FirstObjects
+mod StepLaws
+mod Refusals
+pub mod CallerLemmas

@@ -1,79 +1,133 @@
 -- The refusals follow from the step on the objects.
-use Rattle.std.proofs.Common.{◌≡◌, ◌==◌, ℕ, Bool, true, false, List, Option, Some, None, slice_get, refl, sym, subst, nat_lt, if◌then◌else◌, ltb-true, eq-eqb, inl, inr}
-use Rattle.mv_core.specs.declared.entry.Change.{Change}
-use Rattle.aw_cell.specs.declared.cell.Cell.{Cell}
+use Rattle.std.specs.Prelude.{◌≡◌, ℕ, ◌&&◌, Bool, true, false, not, Contains, List, ◌∷◌, ◌++◌, Option, Some, None, MatchOption, ⊤, refl}
+use Rattle.std.specs.Option.{unwrap_or, is_none}
+use Rattle.std.proofs.Common.{sym, subst, arith, inl, inr, leb-true}
+use Rattle.aw_body.specs.declared.body.Body.{Body}
+use Rattle.aw_body.specs.declared.change.Change.{Change}
+use Rattle.aw_body.specs.declared.change.Seen.{Seen}
+use Rattle.std.proofs.lemmas.List.Elements.{Contains-append_right}
 use Rattle.mv_core.specs.declared.entry.Entry.{Entry}
-use Rattle.mv_core.specs.declared.entry.Entry.TheVariants.{Attach, Acquire, Commit}
+use Rattle.mv_core.specs.declared.entry.Entry.TheVariants.{Attach, Acquire, Resync, Commit, Release, Detach}
 use Rattle.mv_core.specs.declared.entry.Reply.{Reply}
-use Rattle.mv_core.specs.declared.entry.Reply.TheVariants.{Acquired, Committed, Owned, Newer, Stranger, Worn, NoMemory}
+use Rattle.mv_core.specs.declared.entry.Reply.TheVariants.{Acquired, Resynced, Committed, Released, Detached, Stranger, Worn, NoMemory}
 use Rattle.mv_core.specs.declared.object.Object.{Object}
-use Rattle.mv_core.specs.Integers.{integers}
-use Rattle.mv_core.specs.SharedStep.{first_stranger, first_worn, free_reply, acquire_reply, reply_of, objects_after, IsAnswered}
-use Rattle.mv_core.specs.Refusals.{IsKept, IsTrueNewer, IsTrueOwned}
+use Rattle.mv_core.specs.Lookups.{kept_at, is_own, latest_of}
+use Rattle.mv_core.specs.Refusals.{IsKept, IsOutOfPlace, IsTrueOwned, IsTrueNewer, IsTrueStranger, IsTrueWorn}
+use Rattle.mv_core.specs.Replies.{fits_object, may_make, is_worn, first_unkept, first_not_own, acquire_block, commit_block, reply_of}
+use Rattle.mv_core.specs.SharedStep.{table_after, table_step, IsAnswered}
+use Rattle.mv_core.specs.Workspace.{Table}
+use Rattle.mv_core.proofs.Blocking.{Refuses, find-is, acquire-is, commit-is}
 
-abbrev IsTrue : List (Object Cell) → Entry → Reply → Type 0
-IsTrue objects entry reply = IsTrueNewer objects entry reply × IsTrueOwned objects entry reply
+abbrev AreTrue : Table → Entry → Reply → Type 0
+AreTrue table entry reply =
+    IsTrueOwned table entry reply × IsTrueNewer table entry reply × IsTrueStranger table entry reply × IsTrueWorn table entry reply
 
-free-is_true : (objects : List (Object Cell)) (who object number : ℕ) (it : Object Cell) (newer : Bool) → nat_lt number it.number ≡ newer → slice_get objects object ≡ Some it → it.owner ≡ None → IsTrue objects (Acquire who object number) (if newer then Newer object it.number else Acquired)
-free-is_true objects who object number it true above found free = ((it, refl, found, free, refl, ltb-true _ _ above), tt)
-free-is_true objects who object number it false above found free = (tt, tt)
+-- a reply that is blocked, or else the grant
+unwrapped : (P : Reply → Type 0) (blocked : Option Reply) (grant : Reply) → MatchOption blocked ⊤ P → P grant → P (unwrap_or blocked grant)
+unwrapped P None grant is granted = granted
+unwrapped P (Some refusal) grant is granted = is
 
-owned-is_true : (objects : List (Object Cell)) (who object number by : ℕ) (it : Object Cell) (own : Bool) → (by == who) ≡ own → slice_get objects object ≡ Some it → it.owner ≡ Some by → IsTrue objects (Acquire who object number) (if own then Acquired else Owned object by)
-owned-is_true objects who object number by it true own found owner = (tt, tt)
-owned-is_true objects who object number by it false own found owner =
-    (tt, (it, refl, found, owner, λ same. cc (own, eq-eqb by who same)))
+acquire-true : (table : Table) (who : ℕ) (keep : List Seen) (fresh : List ℕ) (same : List Seen) → AreTrue table (Acquire who keep fresh same) (reply_of table.definitions table.objects (Acquire who keep fresh same))
+acquire-true table who keep fresh same =
+    let P = AreTrue table (Acquire who keep fresh same) in
+    unwrapped P (acquire_block table.objects who keep fresh same) (Acquired (latest_of table.objects fresh)) (acquire-is P table.objects who keep fresh same (record {
+      stranger = λ object asked none. (tt, tt, (asked, none), tt);
+      owned = λ object by it asked found owner other. ((it, asked, found, owner, other), tt, tt, tt);
+      newer = λ seen it asked found free above. (tt, (seen, it, asked, refl, found, free, refl, above), tt, tt);
+    })) (tt, tt, tt, tt)
 
-found-is_true : (objects : List (Object Cell)) (who object number : ℕ) (it : Object Cell) (owner : Option ℕ) → it.owner ≡ owner → slice_get objects object ≡ Some it → IsTrue objects (Acquire who object number) (elim owner [ None ↦ free_reply it object number | Some by ↦ if by == who then Acquired else Owned object by ])
-found-is_true objects who object number it None owner found =
-    free-is_true objects who object number it (nat_lt number it.number) refl found owner
-found-is_true objects who object number it (Some by) owner found =
-    owned-is_true objects who object number by it (by == who) refl found owner
+-- ---- a commit
 
-acquire-is_true : (objects : List (Object Cell)) (who object number : ℕ) (found : Option (Object Cell)) → slice_get objects object ≡ found → IsTrue objects (Acquire who object number) (acquire_reply found who object number)
-acquire-is_true objects who object number None found = (tt, tt)
-acquire-is_true objects who object number (Some it) found =
-    found-is_true objects who object number it it.owner refl found
+-- a change that the session may not make is of an object that isn't its own, or doesn't fit
+out-of-place : (table : Table) (who : ℕ) (changes : List Change) (c : Change) (own : Bool) → is_own who (kept_at table.objects c.object) ≡ own → Contains changes c → (own && fits_object table.definitions (kept_at table.objects c.object) c) ≡ false → IsOutOfPlace table who changes c.object
+out-of-place table who changes c true own has out = (c, has, refl, inr (inl out))
+out-of-place table who changes c false own has out = (c, has, refl, inl own)
 
-commit-is_true : (objects : List (Object Cell)) (who : ℕ) (changes : List Change) (stranger worn : Option ℕ) → IsTrue objects (Commit who changes) (elim stranger [ Some object ↦ Stranger object | None ↦ elim worn [ Some object ↦ Worn object | None ↦ Committed ] ])
-commit-is_true objects who changes (Some object) worn = (tt, tt)
-commit-is_true objects who changes None (Some object) = (tt, tt)
-commit-is_true objects who changes None None = (tt, tt)
+contains-after : (front back : List Change) (before c : Change) → Contains (front ++ before ∷ c ∷ back) c
+contains-after front back before c =
+    Contains-append_right front (before ∷ c ∷ back) c (1, omega arith, refl)
 
-reply-is_true : (objects : List (Object Cell)) (entry : Entry) → IsTrue objects entry (reply_of objects entry)
-reply-is_true objects (Attach who) = (tt, tt)
-reply-is_true objects (Acquire who object number) =
-    acquire-is_true objects who object number (slice_get objects object) refl
-reply-is_true objects (Commit who changes) =
-    commit-is_true objects who changes (first_stranger integers objects who 0 changes) (first_worn integers objects changes)
+refuses : (table : Table) (who : ℕ) (changes : List Change) (leave : List ℕ) → Refuses (λ object. AreTrue table (Commit who changes leave) (Stranger object)) (may_make table.definitions table.objects (Some who)) changes
+refuses table who changes leave = record {
+  unmakable = λ c has out. (tt, tt, inl (out-of-place table who changes c (is_own who (kept_at table.objects c.object)) refl has out), tt);
+  unordered = λ c front before back parts below. (tt, tt, inl (c, subst (λ (all : List Change). Contains all c) (sym parts) (contains-after front back before c), refl, inr (inr (front, before, back, parts, below))), tt);
+}
 
-no_memory-is_true : (objects : List (Object Cell)) (entry : Entry) → IsTrue objects entry NoMemory
-no_memory-is_true objects (Attach who) = (tt, tt)
-no_memory-is_true objects (Acquire who object number) = (tt, tt)
-no_memory-is_true objects (Commit who changes) = (tt, tt)
+worn-true : (table : Table) (who : ℕ) (changes : List Change) (leave : List ℕ) (c : Change) (found : Option (Object Body)) → kept_at table.objects c.object ≡ found → Contains changes c → is_worn found ≡ true → AreTrue table (Commit who changes leave) (Worn c.object)
+worn-true table who changes leave c None is has worn = cc
+worn-true table who changes leave c (Some it) is has worn = (tt, tt, tt, (c, it, has, refl, is, leb-true _ _ worn))
 
-answered-is_true : (before : List (Object Cell)) (entry : Entry) (reply : Reply) (after : List (Object Cell)) → IsAnswered before entry reply after → IsTrue before entry reply
-answered-is_true before entry reply after answered =
+commit-true : (table : Table) (who : ℕ) (changes : List Change) (leave : List ℕ) → AreTrue table (Commit who changes leave) (reply_of table.definitions table.objects (Commit who changes leave))
+commit-true table who changes leave =
+    let P = AreTrue table (Commit who changes leave) in
+    unwrapped P (commit_block table.definitions table.objects who changes leave) Committed (commit-is P table.definitions table.objects who changes leave (record {
+      changed = refuses table who changes leave;
+      left = λ object has out. (tt, tt, inr (has, out), tt);
+      worn = λ c has worn. worn-true table who changes leave c (kept_at table.objects c.object) refl has worn;
+    })) (tt, tt, tt, tt)
+
+-- ---- the other entries
+
+stranger-or : (P : Reply → Type 0) (found : Option ℕ) (grant : Reply) → MatchOption found ⊤ (λ object. P (Stranger object)) → P grant → P (elim found [ Some object ↦ Stranger object | None ↦ grant ])
+stranger-or P None grant is granted = granted
+stranger-or P (Some object) grant is granted = is
+
+unkept : (found : Option (Object Body)) → is_none found ≡ true → found ≡ None
+unkept None none = refl
+unkept (Some it) none = cc
+
+not-own : (b : Bool) → not b ≡ true → b ≡ false
+not-own true is = cc
+not-own false is = refl
+
+resync-true : (table : Table) (who : ℕ) (listed : List ℕ) → AreTrue table (Resync who listed) (reply_of table.definitions table.objects (Resync who listed))
+resync-true table who listed =
+    stranger-or (AreTrue table (Resync who listed)) (first_unkept table.objects listed) (Resynced (latest_of table.objects listed)) (find-is (λ object. AreTrue table (Resync who listed) (Stranger object)) (λ object. is_none (kept_at table.objects object)) listed (λ object has none. (tt, tt, (has, unkept (kept_at table.objects object) none), tt))) (tt, tt, tt, tt)
+
+release-true : (table : Table) (who : ℕ) (listed : List ℕ) → AreTrue table (Release who listed) (reply_of table.definitions table.objects (Release who listed))
+release-true table who listed =
+    stranger-or (AreTrue table (Release who listed)) (first_not_own table.objects who listed) Released (find-is (λ object. AreTrue table (Release who listed) (Stranger object)) (λ object. not (is_own who (kept_at table.objects object))) listed (λ object has out. (tt, tt, (has, not-own (is_own who (kept_at table.objects object)) out), tt))) (tt, tt, tt, tt)
+
+reply-true : (table : Table) (entry : Entry) → AreTrue table entry (reply_of table.definitions table.objects entry)
+reply-true table (Attach who) = (tt, tt, tt, tt)
+reply-true table (Acquire who keep fresh same) = acquire-true table who keep fresh same
+reply-true table (Resync who listed) = resync-true table who listed
+reply-true table (Commit who changes leave) = commit-true table who changes leave
+reply-true table (Release who listed) = release-true table who listed
+reply-true table (Detach who) = (tt, tt, tt, tt)
+
+no_memory-true : (table : Table) (entry : Entry) → AreTrue table entry NoMemory
+no_memory-true table (Attach who) = (tt, tt, tt, tt)
+no_memory-true table (Acquire who keep fresh same) = (tt, tt, tt, tt)
+no_memory-true table (Resync who listed) = (tt, tt, tt, tt)
+no_memory-true table (Commit who changes leave) = (tt, tt, tt, tt)
+no_memory-true table (Release who listed) = (tt, tt, tt, tt)
+no_memory-true table (Detach who) = (tt, tt, tt, tt)
+
+-- ---- what was answered
+
+pub AreTrue-answered : (before : Table) (entry : Entry) (reply : Reply) (after : Table) → IsAnswered before entry reply after → IsTrueOwned before entry reply × IsTrueNewer before entry reply × IsTrueStranger before entry reply × IsTrueWorn before entry reply
+AreTrue-answered before entry reply after answered =
     elim answered [
-      | inl refused ↦ subst (IsTrue before entry) (sym refused.0) (no_memory-is_true before entry)
-      | inr step ↦ subst (IsTrue before entry) (sym step.0) (reply-is_true before entry)
+      | inl refused ↦ subst (AreTrue before entry) (sym refused.0) (no_memory-true before entry)
+      | inr step ↦ subst (AreTrue before entry) (sym step.0) (reply-true before entry)
     ]
 
-pub IsTrueNewer-answered : (before : List (Object Cell)) (entry : Entry) (reply : Reply) (after : List (Object Cell)) → IsAnswered before entry reply after → IsTrueNewer before entry reply
-IsTrueNewer-answered before entry reply after answered = (answered-is_true before entry reply after answered).0
-
-pub IsTrueOwned-answered : (before : List (Object Cell)) (entry : Entry) (reply : Reply) (after : List (Object Cell)) → IsAnswered before entry reply after → IsTrueOwned before entry reply
-IsTrueOwned-answered before entry reply after answered = (answered-is_true before entry reply after answered).1
-
-IsKept-after : (before : List (Object Cell)) (entry : Entry) (reply : Reply) (after : List (Object Cell)) → after ≡ objects_after before entry reply → IsKept reply before after
-IsKept-after before entry Acquired after is = tt
+IsKept-after : (before : Table) (entry : Entry) (reply : Reply) (after : Table) → after ≡ table_after before entry reply → IsKept reply before after
+IsKept-after before entry (Acquired latest) after is = tt
 IsKept-after before entry Committed after is = tt
+IsKept-after before entry Released after is = tt
+IsKept-after before entry Detached after is = tt
 IsKept-after before (Attach who) _ after is = is
-IsKept-after before (Acquire who object number) _ after is = is
-IsKept-after before (Commit who changes) _ after is = is
+IsKept-after before (Acquire who keep fresh same) _ after is = is
+IsKept-after before (Resync who listed) _ after is = is
+IsKept-after before (Commit who changes leave) _ after is = is
+IsKept-after before (Release who listed) _ after is = is
+IsKept-after before (Detach who) _ after is = is
 
-pub IsKept-answered : (before : List (Object Cell)) (entry : Entry) (reply : Reply) (after : List (Object Cell)) → IsAnswered before entry reply after → IsKept reply before after
+pub IsKept-answered : (before : Table) (entry : Entry) (reply : Reply) (after : Table) → IsAnswered before entry reply after → IsKept reply before after
 IsKept-answered before entry reply after answered =
     elim answered [
-      | inl refused ↦ subst (λ r. IsKept r before after) (sym refused.0) refused.1
-      | inr step ↦ subst (λ r. IsKept r before after) (sym step.0) (IsKept-after before entry (reply_of before entry) after step.1)
+      | inl refused ↦ subst (λ r. IsKept r before after) (sym refused.0) refused.2
+      | inr step ↦ subst (λ r. IsKept r before after) (sym step.0) (IsKept-after before entry (table_step before entry).0 after step.1)
     ]

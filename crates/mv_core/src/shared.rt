@@ -1,152 +1,213 @@
-ghost use Rattle.std.specs.Prelude.{◌≡◌, ◌<◌, length, map, IfOk, IfSome, slice_get};
-ghost use Rattle.mv_core.specs.declared.entry.Change.{Change};
-ghost use Rattle.mv_core.specs.Workspace.{Workspace, standing, opened};
-ghost use Rattle.mv_core.specs.Integers.{integers};
-ghost use Rattle.mv_core.specs.SharedStep.{restored, reply_of, objects_after, IsLegal, IsAnswered};
-ghost use Rattle.mv_core.specs.Refusals.{IsKept, IsTrueNewer, IsTrueOwned};
+ghost use Rattle.std.specs.Prelude.{◌≡◌, ℕ, length, IfOk, OnErr, IfSome, IsSome, IsTrue, if◌then◌else◌};
+ghost use Rattle.std.specs.Option.{is_some};
+ghost use Rattle.aw_body.specs.declared.body.Body.{Body as BodyValue};
+ghost use Rattle.aw_body.specs.KeptBodies.{bodies_of, bodies_from};
+ghost use Rattle.mv_core.specs.declared.entry.Entry.TheVariants as asked;
+ghost use Rattle.mv_core.specs.declared.entry.Reply.TheVariants as answer;
+ghost use Rattle.mv_core.specs.Effects as effects;
+ghost use Rattle.mv_core.specs.Effects.{objects_after};
+ghost use Rattle.mv_core.specs.Following.{followed_by, table_followed};
+ghost use Rattle.mv_core.specs.Lookups.{kept_at};
+ghost use Rattle.mv_core.specs.Objects.{IsTable};
+ghost use Rattle.mv_core.specs.Prepared.{settled, makes, HasForms, IsReadyFor};
+ghost use Rattle.mv_core.specs.Refusals.{IsKept, IsTrueOwned, IsTrueNewer, IsTrueStranger, IsTrueWorn};
+ghost use Rattle.mv_core.specs.Replies as replies;
+ghost use Rattle.mv_core.specs.Replies.{reply_of};
+ghost use Rattle.mv_core.specs.SharedStep.{writes, takes_memory, table_step, IsLegal, IsAnswered};
+ghost use Rattle.mv_core.specs.Workspace.{Workspace, Table, opened, table_of};
 
-use crate::entry::{Entry, Fresh, Reply};
+use crate::asking::{acquire_block, all_latest, first_not_own, first_unkept, kept, latest};
+use crate::changing::to_follow;
+use crate::entry::{Entry, Reply};
 use crate::object::Object;
-use crate::ready::Ready;
-use crate::table::{acquire_reply, commit_reply, latest, settle};
-use aw_cell::Cell;
+use crate::opening::{definitions_of, first_objects};
+use crate::preparing::commit;
+use crate::ready::{Ready, Todo};
+use crate::settling::{free, free_all, put, settle};
+use aw_body::{Body, Change, Seen};
 use aw_lists::List;
+use aw_schema::{Catalogue, Def};
 use std::alloc::{AllocError, Global};
 use std::marker::Model;
 
-/// The shared state: each object as it stands, in order of definition.
-#[derive(Debug, Drop)]
+/// The shared state: each object of a catalogue as it stands, in order of definition. Objects that aren't
+/// kept have no generations and no owner. Contracts see the definitions and the objects.
+/// See docs/SHARING.md.
+#[derive(Drop)]
 pub struct Shared {
-    objects: Vec<Object<Cell>>,
-}
-
-/// An object with this latest generation, and without an owner.
-fn restored(fresh: &Fresh) -> Object<Cell>
-    ensures { result ≡ restored fresh.now }
-{
-    Object {
-        number: fresh.number,
-        body: fresh.cell,
-        owner: None,
-    }
+    definitions: Vec<Def>,
+    objects: Vec<Option<Object<Body>>>,
 }
 
 impl Model for Shared {
-    ghost use Rattle.std.specs.Prelude.{List, length, ◌<◌};
-    ghost use Rattle.aw_cell.specs.declared.cell.Cell.{Cell};
-    ghost use Rattle.mv_core.specs.declared.object.Object.{Object};
+    ghost use Rattle.mv_core.specs.Objects.{IsTable};
+    ghost use Rattle.mv_core.specs.Workspace.{Table};
 
-    ghost Value = { List (Object Cell) };
+    ghost Value = { Table };
 
-    ghost view = { λ s. s.objects.items };
+    ghost view = { λ s. record { definitions = s.definitions.items; objects = s.objects.items } };
 
-    ghost invariant = { λ s. length s.objects.items < 65536 };
+    ghost invariant = { λ s. IsTable s.definitions.items s.objects.items };
 }
 
 impl Shared {
-    /// So many objects, each with its first generation and without an owner. The only error is want
-    /// of memory.
-    pub fn new(alloc: Global, objects: u16) -> Result<Shared, AllocError>
-        ensures standing { IfOk result (λ shared. shared ≡ standing integers (opened objects)) }
-        ensures length { IfOk result (λ shared. length shared ≡ objects) }
+    /// The objects of a catalogue, each kept one with its first generation and without an owner. The only
+    /// error is want of memory.
+    pub fn new(alloc: Global, catalogue: &Catalogue) -> Result<Shared, AllocError>
+        ensures { IfOk result (λ shared. shared ≡ table_of (bodies_of catalogue.now) (opened catalogue.now)) }
     {
-        let mut made = Vec::new(alloc);
-        for _ in 0..objects {
-            made.push(Object {
-                number: 1,
-                body: Cell::Na,
-                owner: None,
-            })?;
-        }
-        Ok(Shared { objects: made })
+        let definitions = definitions_of(alloc, catalogue)?;
+        let objects = first_objects(alloc, &definitions)?;
+        Ok(Shared {
+            definitions,
+            objects,
+        })
     }
 
-    /// Objects with these latest generations, in this order and without owners. The only error is
-    /// want of memory.
-    pub fn restored(latest: List<Fresh>) -> Result<Shared, AllocError>
-        requires { length latest < 65536 }
-        ensures { IfOk result (λ shared. shared ≡ map restored latest) }
+    /// Whether an object is kept, and so has generations. It takes no memory.
+    pub fn keeps(&self, object: u16) -> bool
+        ensures value { result ≡ is_some (kept_at self.now.objects object) }
+        ensures forms { IsTable self.now.definitions self.now.objects }
     {
-        let latest = latest.into_vec();
-        let objects = latest.iter().map(restored).collect(*latest.allocator())?;
-        Ok(Shared { objects })
+        kept(&self.objects, object).is_some()
     }
 
-    /// How many objects there are. Their numbers are those below.
-    pub fn objects(&self) -> u16
-        ensures { result ≡ length self.now }
-    {
-        self.objects.len() as u16
-    }
-
-    /// An object's latest number and its owner.
+    /// The latest number of a kept object, and its owner. It takes no memory.
     pub fn look(&self, object: u16) -> (u64, Option<u32>)
-        requires { object < length self.now }
-        ensures { IfSome (slice_get self.now object) (λ it. result ≡ (it.number, it.owner)) }
+        requires { IsSome (kept_at self.now.objects object) }
+        ensures { IfSome (kept_at self.now.objects object) (λ it. result ≡ (it.number, it.owner)) }
     {
-        let it = &self.objects[usize::from(object)];
+        let it = kept(&self.objects, object).unwrap();
         (it.number, it.owner)
     }
 
-    /// The body of an object's latest generation.
-    pub fn body(&self, object: u16) -> Cell
-        requires { object < length self.now }
-        ensures { IfSome (slice_get self.now object) (λ it. result ≡ it.body) }
+    /// The body of the latest generation of a kept object. It takes no memory.
+    pub fn body(&self, object: u16) -> &Body
+        requires { IsSome (kept_at self.now.objects object) }
+        ensures { IfSome (kept_at self.now.objects object) (λ it. result.now ≡ it.body) }
     {
-        self.objects[usize::from(object)].body
+        &kept(&self.objects, object).unwrap().body
     }
 
-    /// Looks at an entry, and takes all memory that its answer needs. The only error is want of
-    /// memory.
+    /// Looks at an entry, and takes all memory that its answer needs: the reply and the new bodies. The
+    /// only error is want of memory.
     pub fn prepare(&self, entry: &Entry) -> Result<Ready, AllocError>
-        ensures { IfOk result (λ ready. (ready.entry ≡ entry.now) × (ready.reply ≡ reply_of self.now entry.now)) }
+        ensures reply { IfOk result (λ ready. ready.reply ≡ reply_of self.now.definitions self.now.objects entry.now) }
+        ensures leaves { IfOk result (λ ready. settled self.now.objects ready.todo ≡ objects_after self.now.objects entry.now ready.reply) }
+        ensures writes { IfOk result (λ ready. makes ready.todo ≡ writes entry.now ready.reply) }
+        ensures forms { IfOk result (λ ready. HasForms self.now.definitions ready.todo) }
+    {
+        self.looked_at(entry)
+    }
+
+    fn looked_at(&self, entry: &Entry) -> Result<Ready, AllocError>
+        ensures { IfOk result (IsReadyFor self.now.definitions self.now.objects entry.now) }
     {
         let alloc = *self.objects.allocator();
-        let reply = self.reply(alloc, entry)?;
-        Ok(Ready::new(entry.copied(alloc)?, reply))
-    }
-
-    fn reply(&self, alloc: Global, entry: &Entry) -> Result<Reply, AllocError>
-        ensures { IfOk result (λ reply. reply ≡ reply_of self.now entry.now) }
-    {
         match entry {
-            Entry::Attach { .. } => Ok(Reply::Attached(latest(alloc, &self.objects)?)),
+            Entry::Attach { .. } => {
+                let latest = all_latest(alloc, &self.objects)?;
+                Ok(Ready::new(Reply::Attached(latest), Todo::Nothing))
+            }
             Entry::Acquire {
                 who,
-                object,
-                number,
-            } => Ok(acquire_reply(&self.objects, *who, *object, *number)),
-            Entry::Commit { who, changes } => {
-                Ok(commit_reply(&self.objects, *who, changes.as_slice()))
+                keep,
+                fresh,
+                same,
+            } => {
+                let (keep, same) = (keep.as_slice(), same.as_slice());
+                self.acquired(alloc, *who, keep, fresh.as_slice(), same)
+            }
+            Entry::Resync { who, objects } => self.resynced(alloc, *who, objects.as_slice()),
+            Entry::Commit {
+                who,
+                changes,
+                leave,
+            } => {
+                let (changes, leave) = (changes.as_slice(), leave.as_slice());
+                commit(
+                    alloc,
+                    &self.definitions,
+                    &self.objects,
+                    *who,
+                    changes,
+                    leave,
+                )
+            }
+            Entry::Release { who, objects } => self.released(alloc, *who, objects.as_slice()),
+            Entry::Detach { who } => {
+                Ok(Ready::new(Reply::Detached, Todo::FreeAll { who: *who }))
             }
         }
     }
 
-    /// Answers an entry that was looked at while the objects stood as they stand now, and does what
-    /// it asks for. Takes no memory.
-    pub fn settle(&mut self, ready: Ready) -> Reply
-        requires unchanged { ready.reply ≡ reply_of self.old ready.entry }
-        ensures reply { result ≡ ready.reply }
-        ensures objects { self.new ≡ objects_after self.old ready.entry ready.reply }
-        ensures length { length self.new ≡ length self.old }
+    fn acquired(
+        &self,
+        alloc: Global,
+        who: u32,
+        keep: &[Seen],
+        fresh: &[u16],
+        same: &[Seen],
+    ) -> Result<Ready, AllocError>
+        ensures { IfOk result (IsReadyFor self.now.definitions self.now.objects (asked.Acquire who keep.now fresh.now same.now)) }
     {
-        let (entry, reply) = ready.into_parts();
-        settle(&mut self.objects, &entry, &reply);
+        if let Some(blocked) = acquire_block(&self.objects, who, keep, fresh, same) {
+            return Ok(Ready::new(blocked, Todo::Nothing));
+        }
+        let latest = latest(alloc, &self.objects, fresh)?;
+        let objects = taken_of(alloc, keep, fresh)?;
+        Ok(Ready::new(Reply::Acquired(latest), Todo::Take { who, objects }))
+    }
+
+    fn resynced(&self, alloc: Global, who: u32, listed: &[u16]) -> Result<Ready, AllocError>
+        ensures { IfOk result (IsReadyFor self.now.definitions self.now.objects (asked.Resync who listed.now)) }
+    {
+        if let Some(object) = first_unkept(&self.objects, listed) {
+            return Ok(Ready::new(Reply::Stranger { object }, Todo::Nothing));
+        }
+        let latest = latest(alloc, &self.objects, listed)?;
+        Ok(Ready::new(Reply::Resynced(latest), Todo::Nothing))
+    }
+
+    fn released(&self, alloc: Global, who: u32, listed: &[u16]) -> Result<Ready, AllocError>
+        ensures { IfOk result (IsReadyFor self.now.definitions self.now.objects (asked.Release who listed.now)) }
+    {
+        if let Some(object) = first_not_own(&self.objects, who, listed) {
+            return Ok(Ready::new(Reply::Stranger { object }, Todo::Nothing));
+        }
+        let objects = List::from_slice(alloc, listed)?;
+        Ok(Ready::new(Reply::Released, Todo::Free { who, objects }))
+    }
+
+    /// Answers an entry that was looked at, and does what it asks for. The objects are to stand as they
+    /// stood when it was looked at. It takes no memory.
+    pub fn settle(&mut self, ready: Ready) -> Reply
+        requires { HasForms self.old.definitions ready.todo }
+        ensures reply { result ≡ ready.reply }
+        ensures table { self.new ≡ record self.old { objects = settled self.old.objects ready.todo } }
+    {
+        let (reply, todo) = ready.into_parts();
+        settle(&mut self.objects, todo);
         reply
     }
 
-    /// Answers an entry: a session gets an object that nobody owns where it has the latest
-    /// generation of it, and commits changes to objects of its own. The rules are those of
-    /// docs/SHARING.md.
+    /// Answers an entry: a session gets the latest generations; objects that nobody owns, all that it asks
+    /// for or none; commits changes to objects of its own; and gives them up. The rules are those of
+    /// docs/SHARING.md. `Release` and `Detach` take no memory; any other entry may be answered `NoMemory`,
+    /// which changes nothing.
     pub fn act(&mut self, entry: &Entry) -> Reply
-        ensures step { (w : Workspace Change) → self.old ≡ standing integers w
-            → IsLegal w entry.now result self.new }
-        ensures objects { IsAnswered self.old entry.now result self.new }
-        ensures length { length self.new ≡ length self.old }
+        ensures step { (w : Workspace) (numbers : ℕ → ℕ) (firsts : ℕ → BodyValue) → self.old ≡ table_of (bodies_from w.definitions numbers firsts) w
+            → IsLegal (bodies_from w.definitions numbers firsts) w entry.now result self.new }
+        ensures table { IsAnswered self.old entry.now result self.new }
+        ensures memory { result ≡ answer.NoMemory → IsTrue (takes_memory entry.now) }
+        ensures definitions { self.new.definitions ≡ self.old.definitions }
+        ensures count { length self.new.objects ≡ length self.old.objects }
 
         ensures kept { IsKept result self.old self.new }
-        ensures newer { IsTrueNewer self.old entry.now result }
         ensures owned { IsTrueOwned self.old entry.now result }
+        ensures newer { IsTrueNewer self.old entry.now result }
+        ensures stranger { IsTrueStranger self.old entry.now result }
+        ensures worn { IsTrueWorn self.old entry.now result }
     {
         self.answer(entry)
     }
@@ -154,148 +215,76 @@ impl Shared {
     fn answer(&mut self, entry: &Entry) -> Reply
         ensures { IsAnswered self.old entry.now result self.new }
     {
+        match entry {
+            Entry::Release { who, objects } => self.release(*who, objects.as_slice()),
+            Entry::Detach { who } => self.detach(*who),
+            _ => self.granted(entry),
+        }
+    }
+
+    fn granted(&mut self, entry: &Entry) -> Reply
+        requires { IsTrue (takes_memory entry.now) }
+        ensures { IsAnswered self.old entry.now result self.new }
+    {
         match self.prepare(entry) {
             Ok(ready) => self.settle(ready),
             Err(_) => Reply::NoMemory,
         }
     }
+
+    fn release(&mut self, who: u32, listed: &[u16]) -> Reply
+        ensures { (result, self.new) ≡ table_step self.old (asked.Release who listed.now) }
+    {
+        if let Some(object) = first_not_own(&self.objects, who, listed) {
+            return Reply::Stranger { object };
+        }
+        free(&mut self.objects, who, listed);
+        Reply::Released
+    }
+
+    fn detach(&mut self, who: u32) -> Reply
+        ensures { (result, self.new) ≡ table_step self.old (asked.Detach who) }
+    {
+        free_all(&mut self.objects, who);
+        Reply::Detached
+    }
+
+    /// Follows a commit that was made before, whoever made it, as replaying a disk does: `true` where each
+    /// change is of a kept object whose number can rise, above the object of the change before it, and fits
+    /// its latest body; the objects are then those after this commit, and have the owners that they had.
+    /// `false` and an error, which is want of memory, leave all as it was.
+    pub fn follow(&mut self, changes: &List<Change>) -> Result<bool, AllocError>
+        ensures may { IfOk result (λ may. may ≡ replies.may_follow self.old.definitions self.old.objects changes.now) }
+        ensures step { (w : Workspace) (numbers : ℕ → ℕ) (firsts : ℕ → BodyValue) → self.old ≡ table_of (bodies_from w.definitions numbers firsts) w
+            → IfOk result (λ may. self.new ≡ table_of (bodies_from w.definitions numbers firsts) (if may then followed_by w changes.now else w)) }
+        ensures table { IfOk result (λ may. self.new ≡ (if may then table_followed self.old changes.now else self.old)) }
+        ensures err { OnErr result (self.new ≡ self.old) }
+    {
+        self.followed(changes.as_slice())
+    }
+
+    fn followed(&mut self, changes: &[Change]) -> Result<bool, AllocError>
+        ensures may { IfOk result (λ may. may ≡ replies.may_follow self.old.definitions self.old.objects changes.now) }
+        ensures table { IfOk result (λ may. self.new ≡ (if may then table_followed self.old changes.now else self.old)) }
+        ensures err { OnErr result (self.new ≡ self.old) }
+    {
+        let alloc = *self.objects.allocator();
+        match to_follow(alloc, &self.definitions, &self.objects, changes) {
+            Ok(None) => Ok(false),
+            Ok(Some(made)) => {
+                put(&mut self.objects, made);
+                Ok(true)
+            }
+            Err(error) => Err(error),
+        }
+    }
 }
 
-#[cfg(test)]
-mod tests {
-    use super::*;
-    use crate::entry::Change;
-    use std::test::Fail;
-
-    fn acquire_of(who: u32, object: u16, number: u64) -> Entry {
-        Entry::Acquire {
-            who,
-            object,
-            number,
-        }
-    }
-
-    fn commit_of(alloc: Global, who: u32, cells: &[(u16, Cell)]) -> Result<Entry, AllocError> {
-        let mut changes = List::new(alloc);
-        for (object, cell) in cells {
-            changes.push(Change {
-                object: *object,
-                cell: *cell,
-            })?;
-        }
-        Ok(Entry::Commit { who, changes })
-    }
-
-    fn attached_of(alloc: Global, fresh: &[(u64, Cell)]) -> Result<Reply, AllocError> {
-        let mut latest = List::new(alloc);
-        let mut object = 0;
-        for (number, cell) in fresh {
-            latest.push(Fresh {
-                object,
-                number: *number,
-                cell: *cell,
-            })?;
-            object = object.saturating_add(1);
-        }
-        Ok(Reply::Attached(latest))
-    }
-
-    #[test]
-    fn a_commit_is_seen_by_who_attaches_next(rt: HostRuntime) -> Result<(), Fail> {
-        let mut shared = Shared::new(rt.alloc(), 2)?;
-        assert_eq!(rt; shared.objects(), 2);
-        let opened = attached_of(rt.alloc(), &[(1, Cell::Na), (1, Cell::Na)])?;
-        assert_eq!(rt; shared.act(&Entry::Attach { who: 1 }), opened);
-        assert_eq!(rt; shared.act(&acquire_of(1, 0, 1)), Reply::Acquired);
-        let entry = commit_of(rt.alloc(), 1, &[(0, Cell::Int(5))])?;
-        assert_eq!(rt; shared.act(&entry), Reply::Committed);
-        let later = attached_of(rt.alloc(), &[(2, Cell::Int(5)), (1, Cell::Na)])?;
-        assert_eq!(rt; shared.act(&Entry::Attach { who: 2 }), later);
-        Ok(())
-    }
-
-    #[test]
-    fn refusals_change_nothing(rt: HostRuntime) -> Result<(), Fail> {
-        let mut shared = Shared::new(rt.alloc(), 2)?;
-        assert_eq!(rt; shared.act(&acquire_of(1, 0, 1)), Reply::Acquired);
-        let owned = Reply::Owned { object: 0, by: 1 };
-        assert_eq!(rt; shared.act(&acquire_of(2, 0, 1)), owned);
-        let newer = Reply::Newer {
-            object: 1,
-            number: 1,
-        };
-        assert_eq!(rt; shared.act(&acquire_of(2, 1, 0)), newer);
-        assert_eq!(rt;
-            shared.act(&acquire_of(2, 2, 1)),
-            Reply::Stranger { object: 2 }
-        );
-        assert_eq!(rt; shared.look(0), (1, Some(1)));
-        assert_eq!(rt; shared.look(1), (1, None));
-        Ok(())
-    }
-
-    #[test]
-    fn a_strange_change_refuses_the_whole_commit(rt: HostRuntime) -> Result<(), Fail> {
-        let mut shared = Shared::new(rt.alloc(), 3)?;
-        assert_eq!(rt; shared.act(&acquire_of(1, 0, 1)), Reply::Acquired);
-        assert_eq!(rt; shared.act(&acquire_of(1, 1, 1)), Reply::Acquired);
-        let unowned = commit_of(rt.alloc(), 1, &[(0, Cell::Int(1)), (2, Cell::Int(1))])?;
-        assert_eq!(rt; shared.act(&unowned), Reply::Stranger { object: 2 });
-        let unordered = commit_of(rt.alloc(), 1, &[(1, Cell::Int(1)), (0, Cell::Int(1))])?;
-        assert_eq!(rt; shared.act(&unordered), Reply::Stranger { object: 0 });
-        let unfit = commit_of(
-            rt.alloc(),
-            1,
-            &[(0, Cell::Int(1)), (1, Cell::Int(i32::MIN))],
-        )?;
-        assert_eq!(rt; shared.act(&unfit), Reply::Stranger { object: 1 });
-        let absent = commit_of(rt.alloc(), 1, &[(0, Cell::Na), (3, Cell::Int(1))])?;
-        assert_eq!(rt; shared.act(&absent), Reply::Stranger { object: 3 });
-        assert_eq!(rt; shared.look(0), (1, Some(1)));
-        Ok(())
-    }
-
-    #[test]
-    fn restored_objects_go_on_from_their_numbers(rt: HostRuntime) -> Result<(), Fail> {
-        let latest = Fresh {
-            object: 0,
-            number: 7,
-            cell: Cell::Int(5),
-        };
-        let shared = Shared::restored(List::from_slice(rt.alloc(), &[latest])?)?;
-        assert_eq!(rt; shared.objects(), 1);
-        assert_eq!(rt; shared.look(0), (7, None));
-        assert_eq!(rt; shared.body(0), Cell::Int(5));
-        Ok(())
-    }
-
-    #[test]
-    fn an_entry_is_prepared_and_settled_later(rt: HostRuntime) -> Result<(), Fail> {
-        let mut shared = Shared::new(rt.alloc(), 1)?;
-        let ready = shared.prepare(&acquire_of(1, 0, 1))?;
-        assert!(rt; !ready.writes());
-        assert_eq!(rt; shared.look(0), (1, None));
-        assert_eq!(rt; shared.settle(ready), Reply::Acquired);
-        assert_eq!(rt; shared.look(0), (1, Some(1)));
-        let ready = shared.prepare(&commit_of(rt.alloc(), 1, &[(0, Cell::Int(5))])?)?;
-        assert!(rt; ready.writes());
-        assert_eq!(rt; shared.look(0), (1, Some(1)));
-        assert_eq!(rt; shared.settle(ready), Reply::Committed);
-        assert_eq!(rt; shared.look(0), (2, Some(1)));
-        let ready = shared.prepare(&commit_of(rt.alloc(), 1, &[])?)?;
-        assert!(rt; !ready.writes());
-        Ok(())
-    }
-
-    fn needs_send_and_sync<T: Send + Sync + Drop>(_: T) {}
-
-    #[test]
-    fn goes_to_another_thread(rt: HostRuntime) -> Result<(), Fail> {
-        let shared = Shared::new(rt.alloc(), 0)?;
-        needs_send_and_sync(shared.prepare(&Entry::Attach { who: 1 })?);
-        needs_send_and_sync(shared);
-        needs_send_and_sync(Entry::Attach { who: 1 });
-        needs_send_and_sync(Reply::Acquired);
-        Ok(())
-    }
+/// The objects of the two lists of an `Acquire` that become the session's.
+fn taken_of(alloc: Global, keep: &[Seen], fresh: &[u16]) -> Result<List<u16>, AllocError>
+    ensures { IfOk result (λ objects. objects ≡ effects.taken_of keep.now fresh.now) }
+{
+    let mut objects: Vec<u16> = keep.iter().map(|seen| seen.object).collect(alloc)?;
+    objects.extend_from_slice(fresh)?;
+    Ok(List::from_vec(objects))
 }

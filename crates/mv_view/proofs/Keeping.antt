@@ -15,7 +15,7 @@ use Rattle.mv_view.specs.Each.{object_in, each_from, only, numbers_from}
 use Rattle.mv_view.specs.ViewState.{ObjectView, IsOf, IsSeen, AreSeen, HasForm, kind_of, is_owned}
 use Rattle.mv_view.specs.Rules as rule
 use Rattle.mv_view.specs.inside.Places.{IsListed}
-use Rattle.mv_view.proofs.Each.{object_in-each, length-each, numbers-same}
+use Rattle.mv_view.proofs.callers.Each.{object_in-each, length-each, numbers-same}
 
 -- ---- one object
 

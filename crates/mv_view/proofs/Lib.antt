@@ -1,16 +1,11 @@
-pub mod Each
 pub mod Setting
 pub mod Sameness
-pub mod Forms
 pub mod Steps
 pub mod Placing
-pub mod Fitting
-pub mod Committing
-pub mod Recording
-pub mod Changes
 pub mod Written
 pub mod Renewing
 pub mod Owning
 pub mod Keeping
 pub mod Listing
 pub mod Paging
+pub mod callers

@@ -14,7 +14,7 @@ use Rattle.mv_view.specs.ViewState.{ObjectView, AreSeen, is_owned}
 use Rattle.mv_view.specs.Rules.{objects_of, change_of, staged_patch}
 use Rattle.mv_view.specs.declared.kept.Step.{Step}
 use Rattle.mv_view.specs.inside.Steps.{stepped}
-use Rattle.mv_view.proofs.Each.{each-none, gathered-numbers}
+use Rattle.mv_view.proofs.callers.Each.{each-none, gathered-numbers}
 use Rattle.mv_view.proofs.Steps.{listed-steps}
 
 -- no object is named

@@ -7,7 +7,7 @@ use Rattle.mv_view.specs.ViewState.{ObjectView, IsSeen, AreSeen, is_owned}
 use Rattle.mv_view.specs.Rules.{owning, giving_up, releasing, after_commit, committing, leaving_now, is_staged}
 use Rattle.mv_view.specs.declared.kept.Step.TheVariants.{Own, Release, Commit}
 use Rattle.mv_view.specs.inside.Places.{IsListed}
-use Rattle.mv_view.proofs.Each.{length-each, each-same, numbers-alike, numbers-fewer, numbers-more, length-numbers_but, names-numbers}
+use Rattle.mv_view.proofs.callers.Each.{length-each, each-same, numbers-alike, numbers-fewer, numbers-more, length-numbers_but, names-numbers}
 use Rattle.mv_view.proofs.Steps.{AreSeen-each, IsSeen-only, IsSeen-listed, IsSeen-stepped}
 
 -- an object that isn't owned

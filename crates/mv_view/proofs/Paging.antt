@@ -11,7 +11,7 @@ use Rattle.mv_view.specs.ViewState.{ObjectView, ViewState, object_of, AreSeen}
 use Rattle.mv_view.specs.Rules as rule
 use Rattle.mv_view.specs.declared.fault.ViewFault.{ViewFault}
 use Rattle.mv_view.specs.inside.Places.{IsListed}
-use Rattle.mv_view.proofs.Each.{object_in-each, only-itself}
+use Rattle.mv_view.proofs.callers.Each.{object_in-each, only-itself}
 use Rattle.mv_view.proofs.Keeping.{IsListed-same, owned-cond, seen-written}
 
 -- the owned objects stay listed, whatever the answer

@@ -5,7 +5,7 @@ use Rattle.std.proofs.Common.{◌∙◌, ap, sym, refl, subst, arith}
 use Rattle.std.proofs.lemmas.Option.{slice_get_past}
 use Rattle.mv_view.specs.Each.{object_in, each_from, only}
 use Rattle.mv_view.specs.ViewState.{ObjectView, IsSeen, AreSeen}
-use Rattle.mv_view.proofs.Each.{only-there, only-missing}
+use Rattle.mv_view.proofs.callers.Each.{only-there, only-missing}
 
 -- what stands in a place
 pub object-place : (objects : List (Option ObjectView)) (at object : ℕ) (place found : Option ObjectView) → at ≡ object → slice_get objects at ≡ Some place → place ≡ found → object_in objects object ≡ found

@@ -9,7 +9,7 @@ use Rattle.aw_body.specs.declared.change.Fresh.{Fresh}
 use Rattle.mv_view.specs.Each.{object_in, each_from, only, numbers_from}
 use Rattle.mv_view.specs.ViewState.{ObjectView, is_owned, HasForm, HaveForms, kept_kinds}
 use Rattle.mv_view.specs.Rules.{latest_of, renewed, with_latest, seen, seen_from}
-use Rattle.mv_view.proofs.Each.{each-each, each-same}
+use Rattle.mv_view.proofs.callers.Each.{each-each, each-same}
 
 -- ---- one more generation, in front of those that were taken
 

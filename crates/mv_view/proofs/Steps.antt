@@ -12,8 +12,8 @@ use Rattle.mv_view.specs.Rules.{is_staged, giving_up, releasing, committing, lea
 use Rattle.mv_view.specs.declared.kept.Step.{Step}
 use Rattle.mv_view.specs.declared.kept.Step.TheVariants.{Update, Revert, Own, Release, Commit}
 use Rattle.mv_view.specs.inside.Steps.{stepped}
-use Rattle.mv_view.proofs.Each.{object_in-each, each-each, each-same, listed-more}
-use Rattle.mv_view.proofs.Forms.{difference-itself}
+use Rattle.mv_view.proofs.callers.Each.{object_in-each, each-each, each-same, listed-more}
+use Rattle.mv_view.proofs.callers.Forms.{difference-itself}
 
 -- ---- forms stay
 

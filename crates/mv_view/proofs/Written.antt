@@ -24,8 +24,8 @@ use Rattle.mv_view.specs.Each.{only}
 use Rattle.mv_view.specs.ViewState.{ObjectView, ViewState, object_of, AreSeen, IsSeen, AreCellsOf}
 use Rattle.mv_view.specs.Rules as rule
 use Rattle.mv_view.specs.Laws.{last_at, WritesCells}
-use Rattle.mv_view.proofs.Each.{object_in-each, only-itself, only-other}
-use Rattle.mv_view.proofs.Committing.{some-seen}
+use Rattle.mv_view.proofs.callers.Each.{object_in-each, only-itself, only-other}
+use Rattle.mv_view.proofs.callers.Committing.{some-seen}
 
 same-key : (one other : List ℕ) → by_slots one other ≡ Equal → one ≡ other
 same-key = slice_cmp-IsAntisymmetric nat_cmp-IsAntisymmetric

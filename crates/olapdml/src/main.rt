@@ -24,6 +24,8 @@ A refused line is answered by ERROR, a number and its detail:
 
    1  a line of no form, an unknown or repeated name, a 65th session
       write the statement as docs/LANGUAGE.md has it; define names before the first session line
+  14  the record of the commit would have more than 67,108,864 bytes
+      update and commit fewer objects at once
   15  the session isn't attached
       begin with AW ATTACH MULTI
   16  the session is attached already

@@ -1,3 +1,5 @@
-pub mod Completing
-mod Objects
+mod Lines
+mod Tables
 mod WholeDumps
+mod Written
+pub mod callers

@@ -1,14 +1,11 @@
 -- That what was written of a store is its dump, which a crash from then on leaves.
-use Rattle.std.proofs.Common.{◌≡◌, ◌⊎◌, inl, inr, ⊎_elim, ℕ, List, [], Option, None, Some, IfSome, IsTrue, unwrap_or, refl, ap, arith}
-use Rattle.aw_cell.specs.declared.cell.Cell.{Cell}
+use Rattle.std.proofs.Common.{◌≡◌, inl, inr, ⊎_elim, ℕ, List, [], Option, None, Some, IfSome, IsTrue, refl, ap, arith}
 use Rattle.aw_codec.specs.declared.record.Decoded.{Decoded}
 use Rattle.aw_io.specs.Known.{Grows, GrowsByFront}
 use Rattle.aw_store.specs.Images.{AreRecords, HoldsRecords, LeftRecords}
-use Rattle.aw_store.specs.Replay.{can_replay, names_of, workspace_of}
-use Rattle.mv_core.specs.declared.object.Object.{Object}
-use Rattle.mv_core.specs.Integers.{integers}
-use Rattle.mv_core.specs.Workspace.{standing}
-use Rattle.script_meaning.specs.Dump.{dumped}
+use Rattle.aw_store.specs.Replay.{can_replay, stood_by}
+use Rattle.mv_core.specs.Workspace.{Table}
+use Rattle.script_meaning.specs.Dump.{dumped_table}
 use Rattle.script_disk.specs.Dumped.{IsDumpOf, EndsDump}
 
 -- where nothing is in doubt, a crash leaves the records
@@ -16,15 +13,15 @@ durable : (records : List Decoded) (doubt : Option Decoded) (images : List ℕ �
 durable records None images certain left image is = left image is
 durable records (Some r) images certain left image is = cc
 
-pub is_dump : (content : Option (List ℕ)) (images : List ℕ → Type 0) (records : List Decoded) (doubt : Option Decoded) (objects : List (Object Cell)) →
+pub is_dump : (content : Option (List ℕ)) (images : List ℕ → Type 0) (records : List Decoded) (doubt : Option Decoded) (table : Table) →
     AreRecords records → IsTrue (can_replay records) → IfSome content (λ image. HoldsRecords image records) → doubt ≡ None → ((image : List ℕ) → images image → LeftRecords records doubt image) →
-    objects ≡ standing integers (workspace_of records []) → IsDumpOf content images (dumped (unwrap_or (names_of records) []) objects)
-is_dump content images records doubt objects spellings replayable holds certain left are = record {
+    table ≡ stood_by records [] → IsDumpOf content images (dumped_table table)
+is_dump content images records doubt table spellings replayable holds certain left are = record {
   records = records;
   can_be_opened = record { spellings = spellings; replayable = replayable };
   holds = holds;
   durable = durable records doubt images certain left;
-  text_is = ap (dumped (unwrap_or (names_of records) [])) are;
+  text_is = ap dumped_table are;
 }
 
 module _ (content : Option (List ℕ)) (images : List ℕ → Type 0) (before now : Option (List ℕ)) (text : List ℕ) (dump : IsDumpOf content images text) where

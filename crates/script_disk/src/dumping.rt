@@ -1,58 +1,30 @@
-ghost use Rattle.std.specs.Prelude.{◌≡◌, ◌≤◌, [], length, unwrap_or, IfSome, IsSome, OnOk, OnErr};
+ghost use Rattle.std.specs.Prelude.{◌≡◌, ◌≤◌, IfSome, IsSome, OnOk, OnErr};
 ghost use Rattle.aw_io.specs.Known.{Grows, GrowsByFront};
 ghost use Rattle.aw_lists.specs.Faults.{Rose};
 ghost use Rattle.aw_journal.specs.Passed.{Passed};
-ghost use Rattle.aw_store.specs.Replay.{names_of};
-ghost use Rattle.script_meaning.specs.Dump.{dumped};
+ghost use Rattle.script_meaning.specs.Dump.{dumped_table};
 ghost use Rattle.script_disk.specs.Dumped.{EndsDump, Dumps, CompletesDump};
 ghost use Rattle.script_disk.specs.Formatted.{AreFormatted};
 ghost use Rattle.script_disk.specs.Opened.{ExplainsContent};
 
-use crate::line::object_lines;
+use crate::objects::write_objects;
 use crate::opening::open;
-use aw_cell::Text;
 use aw_disk::Disk;
-use aw_io::{Sink, SinkFault, put_all};
+use aw_io::{Sink, SinkFault};
 use aw_store::Store;
 use core::mem::replace_with;
 use std::alloc::Global;
 
-// Writes each object of a store, under its name.
-fn write_objects<K: Sink, D: Disk>(
-    names: &[Text],
-    store: &Store<D>,
-    out: &mut K,
-) -> Result<(), SinkFault>
-    requires sized { length names.now ≡ length store.now.objects }
-    requires few { length names.now ≤ 4096 }
-    ensures ok { OnOk result (Grows (K.written out.old) (K.written out.new) (dumped names.now store.now.objects)) }
-    ensures err { OnErr result (GrowsByFront (K.written out.old) (K.written out.new) (dumped names.now store.now.objects)) }
-    ensures later { K.faults out.old ≤ K.faults out.new }
-    ensures cause { OnErr result (Rose (K.faults out.old) (K.faults out.new)) }
-{
-    for (at, name) in names.iter().enumerate() {
-        let object = at as u16;
-        let number = store.look(object).0;
-        let lines = object_lines(name, number, &store.body(object));
-        match put_all(out, lines.as_slice()) {
-            Ok(()) => {}
-            Err(fault) => return Err(fault),
-        }
-    }
-    Ok(())
-}
-
 // Writes the dump of a store.
-#[tactic(auto, using(crate::proofs::Objects::few_names))]
 fn write_dump<K: Sink, D: Disk>(store: &Store<D>, out: &mut K) -> Result<(), SinkFault>
-    ensures ok { OnOk result (Grows (K.written out.old) (K.written out.new) (dumped (unwrap_or (names_of store.now.records) []) store.now.objects)) }
-    ensures err { OnErr result (GrowsByFront (K.written out.old) (K.written out.new) (dumped (unwrap_or (names_of store.now.records) []) store.now.objects)) }
+    ensures ok { OnOk result (Grows (K.written out.old) (K.written out.new) (dumped_table store.now.table)) }
+    ensures err { OnErr result (GrowsByFront (K.written out.old) (K.written out.new) (dumped_table store.now.table)) }
     ensures later { K.faults out.old ≤ K.faults out.new }
     ensures cause { OnErr result (Rose (K.faults out.old) (K.faults out.new)) }
 {
     store.stands();
-    match store.names() {
-        Some(names) => write_objects(names.as_slice(), store, out),
+    match store.catalogue() {
+        Some(catalogue) => write_objects(catalogue, store, out),
         None => Ok(()),
     }
 }
@@ -88,9 +60,10 @@ fn dump_disk<'a, K: Sink, D: Disk>(disk: D, devices: Devices<'a, K>) -> (D, (u8,
     }
 }
 
-/// Writes what a workspace stands for, for the word `dump`: each object in order of definition, with
-/// its name, the number of its latest generation, how many of its cells aren't NA, and these cells
-/// (docs/FORMATS.md, "A dump"). The disk keeps its content. The answer is the status of the run:
+/// Writes what a workspace stands for, for the word `dump`: each object that is kept, in order of
+/// definition, with its name, the number of its latest generation, how many values, slots or cells it
+/// has, and a line for each of them (docs/FORMATS.md, "A dump"). The disk keeps its content. It takes
+/// no memory beside that of the store. The answer is the status of the run:
 ///
 /// - 0: the whole dump is written.
 /// - 4: the sink failed. A front of what was due is written.

@@ -5,6 +5,7 @@
 mod dumping;
 mod line;
 mod making;
+mod objects;
 mod opening;
 mod saying;
 

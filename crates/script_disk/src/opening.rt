@@ -2,9 +2,7 @@ ghost use Rattle.std.specs.Prelude.{◌≡◌, ◌⊎◌, ◌≤◌, [], None, I
 ghost use Rattle.aw_io.specs.Known.{Grows, GrowsByFront};
 ghost use Rattle.aw_lists.specs.Faults.{Rose};
 ghost use Rattle.aw_journal.specs.Passed.{Passed};
-ghost use Rattle.mv_core.specs.Workspace.{standing};
-ghost use Rattle.mv_core.specs.Integers.{integers};
-ghost use Rattle.aw_store.specs.Replay.{workspace_of};
+ghost use Rattle.aw_store.specs.Replay.{stood_by};
 ghost use Rattle.aw_store.specs.Images.{HoldsRecords};
 ghost use Rattle.script_disk.specs.Opened.{status_of, IsUnopened, Told};
 
@@ -79,7 +77,7 @@ pub fn open<K: Sink, D: Disk>(
     out: &mut K,
 ) -> Result<Store<D>, (Unopened, D)>
     ensures holds { IfOk result (λ store. IfSome (D.content disk) (λ image. HoldsRecords image store.records)) }
-    ensures opened { IfOk result (λ store. (store.doubt ≡ None) × (store.objects ≡ standing integers (workspace_of store.records []))) }
+    ensures opened { IfOk result (λ store. (store.doubt ≡ None) × (store.table ≡ stood_by store.records [])) }
     ensures content { IfOk result (λ store. D.content store.disk ≡ D.content disk) }
     ensures refused_content { IfErr result (λ refused. D.content refused.1 ≡ D.content disk) }
     ensures moments { IfOk result (λ store. Passed (D.clock disk) (D.clock store.disk) (D.crash disk) (D.crash store.disk) (D.crash disk (D.clock disk))) }

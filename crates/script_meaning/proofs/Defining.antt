@@ -1,63 +1,130 @@
--- Names that can be defined together stay so when a new one joins them.
-use Rattle.std.specs.Prelude.{◌≡◌, ◌<◌, ◌+◌, ◌&&◌, ◌||◌, ◌++◌, ℕ, Bool, true, false, not, cond, List, [], ◌∷◌, length, None, Some, is_none, position, refl}
-use Rattle.std.specs.List.{list_all, list_any, prefix_len, position_or_len}
-use Rattle.std.proofs.Common.{◌∙◌, ap, sym, arith, length-append}
-use Rattle.std.proofs.lemmas.Bool.{and_parts, and_from, lt-ltb, true≢false}
-use Rattle.std.proofs.lemmas.List.Folds.{list_all-append, list_any-append}
-use Rattle.std.proofs.lemmas.Slice.Eq.{bytes_eq-Decides}
-use Rattle.aw_cell.specs.Names.{lowercase, same_word, is_name}
-use Rattle.aw_codec.specs.Records.{are_distinct, AreDefinable}
-use Rattle.ses_step.specs.Words.{place_of}
+-- The definitions that a script has made can be written and replayed, and stay so when one joins them.
+use Rattle.std.specs.Prelude.{◌≡◌, ◌≤◌, ◌<◌, ◌*◌, ◌&&◌, ◌++◌, ℕ, suc, Bool, true, false, not, List, [], ◌∷◌, All, length, map, nat_le, Option, None, Some, IsTrue, refl, if◌then◌else◌}
+use Rattle.std.specs.List.{list_all, list_any, sum_by}
+use Rattle.std.specs.Option.{is_none, option_or}
+use Rattle.std.proofs.Common.{◌∙◌, ap, sym, subst, arith, length-append, append_assoc, append-nil}
+use Rattle.std.proofs.lemmas.Bool.{and_parts, and_from, leb-true, leb-false, true≢false}
+use Rattle.std.proofs.lemmas.List.{map-append}
+use Rattle.std.proofs.lemmas.List.Elements.{All-nil, All-cons}
+use Rattle.std.proofs.lemmas.List.Folds.{list_all-append}
+use Rattle.std.proofs.lemmas.List.Sums.{sum_by-cons}
+use Rattle.aw_cell.specs.Names.{is_name, has_name_form, begins_with, is_letter, is_name_byte, same_word, reserved_words}
+use Rattle.aw_schema.specs.declared.definition.Def.{Def}
+use Rattle.aw_schema.specs.declared.fault.SchemaFault.TheVariants.{TooMany}
+use Rattle.aw_schema.specs.Checking.{repeated_name, too_many, wrong_objects, refusal}
+use Rattle.aw_schema.specs.Definitions.{is_spellable}
+use Rattle.aw_schema.specs.RecordLength.{definition_len, record_len}
+use Rattle.aw_codec.specs.Records.{IsDefinition}
+use Rattle.aw_codec.proofs.callers.Lengths.{record_length}
+use Rattle.aw_store.specs.Replay.{are_replayed, are_accepted_after}
+use Rattle.script_meaning.specs.Fit.{AreDefinable}
+use Rattle.script_meaning.specs.Language.{integer, can_define}
 
-same_word-sym : (a b : List ℕ) → same_word a b ≡ false → same_word b a ≡ false
-same_word-sym a b differs = by_test (same_word b a) refl
+-- up to 4,096 INTEGER variables without dimensions, each under a name
+pub record AreIntegers (definitions : List Def) : Type 0 where
+  pub names : List (List ℕ)
+  pub are : definitions ≡ map integer names
+  pub named : list_all is_name names ≡ true
+  pub few : length names ≤ 4096
+
+-- what a script has made: such variables, each accepted after those before it
+pub record AreDrafted (definitions : List Def) : Type 0 where
+  pub integers : AreIntegers definitions
+  pub accepted : are_accepted_after [] definitions ≡ true
+
+-- ---- what a record asks
+
+-- a name has at most 64 bytes
+name-len : (name : List ℕ) → is_name name ≡ true → length name ≤ 64
+name-len name named =
+    let form = (and_parts (has_name_form name) (not (list_any (same_word name) reserved_words)) named).0 in
+    let front = (and_parts (begins_with is_letter name && nat_le (length name) 64) (list_all is_name_byte name) form).0 in
+    leb-true (length name) 64 (and_parts (begins_with is_letter name) (nat_le (length name) 64) front).1
+
+-- a definition has at most 68 bytes
+few-bytes : (names : List (List ℕ)) → list_all is_name names ≡ true → sum_by definition_len (map integer names) ≤ 68 * length names
+few-bytes [] named = omega arith
+few-bytes (name ∷ names) named =
+    let parts = and_parts (is_name name) (list_all is_name names) named in
+    omega (arith, sum_by-cons definition_len (integer name) (map integer names), name-len name parts.0, few-bytes names parts.1)
+
+pub record_len-below : (definitions : List Def) → AreIntegers definitions → record_len definitions ≤ 67108864
+record_len-below definitions it = omega (arith, ap record_len it.are, few-bytes it.names it.named, it.few)
+
+replayed-integers : (names : List (List ℕ)) → are_replayed (map integer names) ≡ true
+replayed-integers [] = refl
+replayed-integers (name ∷ names) = replayed-integers names
+
+pub replayed-all : (definitions : List Def) → AreIntegers definitions → are_replayed definitions ≡ true
+replayed-all definitions it = ap are_replayed it.are ∙ replayed-integers it.names
+
+pub spellable-integer : (name : List ℕ) → is_name name ≡ true → IsTrue (is_spellable (integer name))
+spellable-integer name named = and_from (is_name name) true named refl
+
+definitions-integers : (names : List (List ℕ)) → list_all is_name names ≡ true → All IsDefinition (map integer names)
+definitions-integers [] named = All-nil IsDefinition
+definitions-integers (name ∷ names) named =
+    let parts = and_parts (is_name name) (list_all is_name names) named in
+    All-cons IsDefinition (integer name) (map integer names) (spellable-integer name parts.0, (All-nil _, omega arith)) (definitions-integers names parts.1)
+
+length-integers : (names : List (List ℕ)) → length (map integer names) ≡ length names
+length-integers [] = refl
+length-integers (name ∷ names) = ap suc (length-integers names)
+
+pub definable-drafted : (definitions : List Def) → AreDrafted definitions → AreDefinable definitions
+definable-drafted definitions it = record {
+  stored = record {
+    spelling = (omega (arith, ap length it.integers.are, length-integers it.integers.names, it.integers.few), subst (All IsDefinition) (sym it.integers.are) (definitions-integers it.integers.names it.integers.named));
+    short = omega (arith, record_length definitions, record_len-below definitions it.integers);
+  };
+  replayed = replayed-all definitions it.integers;
+  accepted = it.accepted;
+}
+
+-- ---- one more
+
+none-parts : {A : Type 0} (x y : Option A) → is_none (option_or x y) ≡ true → (is_none x ≡ true) × (is_none y ≡ true)
+none-parts None y none = (refl, none)
+none-parts (Some a) y none = absurd (true≢false (sym none))
+
+room-left : (n : ℕ) → is_none (if nat_le 4096 n then Some TooMany else None) ≡ true → n < 4096
+room-left n none = by_test (nat_le 4096 n) refl none
   where
-    by_test : (same : Bool) → same_word b a ≡ same → same ≡ false
-    by_test false is = refl
-    by_test true is =
-        let same = (bytes_eq-Decides (lowercase b) (lowercase a)).0 is in
-        absurd (true≢false (sym ((bytes_eq-Decides (lowercase a) (lowercase b)).1 (sym same)) ∙ differs))
+    by_test : (test : Bool) → nat_le 4096 n ≡ test → is_none (if test then Some TooMany else None) ≡ true → n < 4096
+    by_test true is none = absurd (true≢false (sym none))
+    by_test false is none = leb-false 4096 n is
 
-or_parts : (a b : Bool) → (a || b) ≡ false → (a ≡ false) × (b ≡ false)
-or_parts true b none = absurd (true≢false none)
-or_parts false b none = (refl, none)
+-- a catalogue accepts it where there are fewer than 4,096
+defined-few : (definitions : List Def) (name : List ℕ) → can_define definitions name ≡ true → length definitions < 4096
+defined-few definitions name can =
+    let later = none-parts (repeated_name definitions name) (option_or (too_many definitions) (wrong_objects definitions (integer name).kind)) can in
+    room-left (length definitions) (none-parts (too_many definitions) (wrong_objects definitions (integer name).kind) later.1).0
 
-found-within : {X : Type 0} (test : X → Bool) (xs : List X) → list_any test xs ≡ true → prefix_len (λ x. not (test x)) xs < length xs
-found-within test [] any = absurd (true≢false (sym any))
-found-within {X} test (x ∷ xs) any = by_first (test x) any (found-within test xs)
-  where
-    by_first : (first : Bool) → (first || list_any test xs) ≡ true → (list_any test xs ≡ true → prefix_len (λ x. not (test x)) xs < length xs) → cond (not first) (1 + prefix_len (λ x. not (test x)) xs) 0 < length (x ∷ xs)
-    by_first true is later = omega arith
-    by_first false is later = omega (arith, later is)
+pub integers-none : AreIntegers []
+integers-none = record { names = []; are = refl; named = refl; few = omega arith }
 
-none-nowhere : {X : Type 0} (test : X → Bool) (xs : List X) → is_none (position test xs) ≡ true → list_any test xs ≡ false
-none-nowhere test xs none = by_test (list_any test xs) refl
-  where
-    at : ℕ
-    at = position_or_len test xs
+pub integers-push : (definitions : List Def) (name : List ℕ) → AreIntegers definitions → is_name name ≡ true → can_define definitions name ≡ true → AreIntegers (definitions ++ integer name ∷ [])
+integers-push definitions name it named can = record {
+  names = it.names ++ name ∷ [];
+  are = ap (λ (those : List Def). those ++ integer name ∷ []) it.are ∙ sym (map-append integer it.names (name ∷ []));
+  named = list_all-append is_name it.names (name ∷ []) ∙ and_from (list_all is_name it.names) (is_name name && true) it.named (ap (λ one. one && true) named);
+  few = omega (arith, defined-few definitions name can, ap length it.are, length-integers it.names, length-append it.names (name ∷ []));
+}
 
-    by_test : (any : Bool) → list_any test xs ≡ any → any ≡ false
-    by_test false is = refl
-    by_test true is =
-        absurd (true≢false (sym none ∙ ap (λ it. is_none (cond it (Some at) None)) (lt-ltb at (length xs) (found-within test xs is))))
+accepted-push : (before definitions : List Def) (def : Def) → are_accepted_after before definitions ≡ true → is_none (refusal (before ++ definitions) def) ≡ true → are_accepted_after before (definitions ++ def ∷ []) ≡ true
+accepted-push before [] def are can =
+    and_from (is_none (refusal before def)) true (ap (λ those. is_none (refusal those def)) (sym (append-nil before)) ∙ can) refl
+accepted-push before (first ∷ definitions) def are can =
+    let parts = and_parts (is_none (refusal before first)) (are_accepted_after (before ++ first ∷ []) definitions) are in
+    and_from (is_none (refusal before first)) (are_accepted_after (before ++ first ∷ []) (definitions ++ def ∷ [])) parts.0
+    (accepted-push (before ++ first ∷ []) definitions def parts.1 (ap (λ those. is_none (refusal those def)) (append_assoc before (first ∷ []) definitions) ∙ can))
 
-distinct-push : (names : List (List ℕ)) (name : List ℕ) → are_distinct names ≡ true → list_any (same_word name) names ≡ false → are_distinct (names ++ name ∷ []) ≡ true
-distinct-push [] name distinct none = refl
-distinct-push (first ∷ names) name distinct none =
-    let parts = and_parts (not (list_any (same_word first) names)) (are_distinct names) distinct in
-    let none_parts = or_parts (same_word name first) (list_any (same_word name) names) none in
-    let others : list_any (same_word first) (names ++ name ∷ []) ≡ (list_any (same_word first) names || false) =
-    list_any-append (same_word first) names (name ∷ []) ∙ ap (λ it. list_any (same_word first) names || (it || false)) (same_word-sym name first none_parts.0) in
-    and_from (not (list_any (same_word first) (names ++ name ∷ []))) (are_distinct (names ++ name ∷ [])) (ap not others ∙ by_others (list_any (same_word first) names) parts.0) (distinct-push names name parts.1 none_parts.1)
-  where
-    by_others : (any : Bool) → not any ≡ true → not (any || false) ≡ true
-    by_others true is = is
-    by_others false is = refl
+pub drafted-none : AreDrafted []
+drafted-none = record { integers = integers-none; accepted = refl }
 
--- a name that isn't there joins fewer than 4,096
-pub definable-push : (names : List (List ℕ)) (name : List ℕ) → AreDefinable names → is_name name ≡ true → length names < 4096 → is_none (place_of names name) ≡ true → AreDefinable (names ++ name ∷ [])
-definable-push names name definable named few new = record {
-  few = omega (arith, few, length-append names (name ∷ []));
-  named = list_all-append is_name names (name ∷ []) ∙ and_from (list_all is_name names) (is_name name && true) definable.named (ap (λ it. it && true) named);
-  distinct = distinct-push names name definable.distinct (none-nowhere (same_word name) names new);
+-- an INTEGER variable that a catalogue accepts joins the others
+pub drafted-push : (definitions : List Def) (name : List ℕ) → AreDrafted definitions → is_name name ≡ true → can_define definitions name ≡ true → AreDrafted (definitions ++ integer name ∷ [])
+drafted-push definitions name it named can = record {
+  integers = integers-push definitions name it.integers named can;
+  accepted = accepted-push [] definitions (integer name) it.accepted can;
 }

@@ -1,22 +1,21 @@
 -- A turn on a disk: that of the machine without one, with an attempt that is done, or with one that faulted and no change.
-use Rattle.std.specs.Prelude.{◌≡◌, ◌++◌, ℕ, ℤ, Bool, true, false, List, [], ◌∷◌, length, Option, None, Some, Result, Ok, Err, map, if◌then◌else◌, refl}
+use Rattle.std.specs.Prelude.{◌≡◌, ◌++◌, ℕ, Bool, true, false, List, [], ◌∷◌, length, None, Some, if◌then◌else◌, refl}
 use Rattle.std.proofs.Common.{◌∙◌, ap, sym, subst}
+use Rattle.aw_schema.specs.declared.definition.Def.{Def}
 use Rattle.aw_codec.specs.declared.record.Decoded.{Decoded}
+use Rattle.aw_body.specs.declared.change.Seen.{Seen}
 use Rattle.mv_core.specs.declared.entry.Entry.{Entry}
 use Rattle.mv_core.specs.declared.entry.Entry.TheVariants as entry
 use Rattle.mv_core.specs.declared.entry.Reply.{Reply}
 use Rattle.mv_core.specs.SharedStep.{writes}
 use Rattle.aw_store.specs.Stores.{record_of}
-use Rattle.ses_step.specs.declared.answer.Answer.TheVariants.{Done, Shown, Refused}
-use Rattle.ses_report.specs.declared.refusal.Refusal.{Refusal}
+use Rattle.ses_step.specs.declared.answer.Answer.TheVariants.{Refused}
 use Rattle.ses_step.specs.declared.line.Command.{Command}
 use Rattle.ses_step.specs.declared.session.Begun.{Begun}
 use Rattle.ses_step.specs.declared.session.Begun.TheVariants.{Said, Ask}
 use Rattle.ses_step.specs.declared.session.Known.{Known as Session}
-use Rattle.ses_step.specs.declared.session.View.{View}
-use Rattle.aw_cell.specs.declared.cell.Cell.TheVariants.{Int}
-use Rattle.ses_report.specs.Refusals.{disk_fault, not_attached, already_attached}
-use Rattle.ses_step.specs.Sessions.{begun, with_view, updated}
+use Rattle.ses_report.specs.Refusals.{disk_fault}
+use Rattle.ses_step.specs.Sessions.{begun}
 use Rattle.script_world.specs.Worlds.{Machine}
 use Rattle.script_meaning.proofs.Begins.{asked_by}
 use Rattle.script_meaning.specs.Turns.{Turn, replied, turn_from, turn}
@@ -43,7 +42,7 @@ module _ {S : Type 0} (disk : OnDisk Decoded S) where
     shared = record disk { tried = disk.tried ++ (record { attempted = record_of asked; outcome = faulted }) ∷ [] };
   }
 
-module _ {S : Type 0} (machine : Machine language S) (next : ℕ → Outcome) (definitions names : List (List ℕ)) (disk : OnDisk Decoded S) (P : Turn (OnDisk Decoded S) → Type 0) where
+module _ {S : Type 0} (machine : Machine language S) (next : ℕ → Outcome) (definitions : List Def) (names : List (List ℕ)) (disk : OnDisk Decoded S) (P : Turn (OnDisk Decoded S) → Type 0) where
   pub turn_from-cases : (b : Begun) (session : Session) →
       (((asked : Entry) → b ≡ Ask asked → writes asked (machine.step disk.state asked).0 ≡ false) → P (unwritten_turn disk (turn_from machine definitions names disk.state (b, session)))) →
       ((asked : Entry) → b ≡ Ask asked → writes asked (machine.step disk.state asked).0 ≡ true → P (done_turn disk (turn_from machine definitions names disk.state (b, session)) asked)) →
@@ -69,11 +68,11 @@ module _ {S : Type 0} (machine : Machine language S) (next : ℕ → Outcome) (d
 -- ---- a command's turn
 
 -- what the session asks, and whether that writes a record
-pub record Writes {S : Type 0} (machine : Machine language S) (definitions : List (List ℕ)) (state : S) (session : Session) (command : Command) (asked : Entry) (writing : Bool) : Type 0 where
+pub record Writes {S : Type 0} (machine : Machine language S) (definitions : List Def) (state : S) (session : Session) (command : Command) (asked : Entry) (writing : Bool) : Type 0 where
   pub asks : (begun definitions session command).0 ≡ Ask asked
   pub is : writes asked (machine.step state asked).0 ≡ writing
 
-module _ {S : Type 0} (machine : Machine language S) (next : ℕ → Outcome) (definitions names : List (List ℕ)) (disk : OnDisk Decoded S) (session : Session) (command : Command) (P : Turn (OnDisk Decoded S) → Type 0) where
+module _ {S : Type 0} (machine : Machine language S) (next : ℕ → Outcome) (definitions : List Def) (names : List (List ℕ)) (disk : OnDisk Decoded S) (session : Session) (command : Command) (P : Turn (OnDisk Decoded S) → Type 0) where
   abbrev plain : Turn S
   plain = turn machine definitions names disk.state session command
 
@@ -91,26 +90,13 @@ module _ {S : Type 0} (machine : Machine language S) (next : ℕ → Outcome) (d
 -- ---- the machine over commits and owners
 
 -- a command that isn't COMMIT writes no record
-module _ (coming : List Outcome) (definitions names : List (List ℕ)) (disk : HistoryDisk) (s : Session) where
-  abbrev IsUnwritten : Begun × Session → Type 0
+module _ (coming : List Outcome) (definitions : List Def) (names : List (List ℕ)) (disk : HistoryDisk) (s : Session) where
+  abbrev pub IsUnwritten : Begun × Session → Type 0
   IsUnwritten b = turn_from (by_history coming) definitions names disk b ≡ unwritten_turn disk (turn_from history_machine definitions names disk.state b)
 
-  pub attach-unwritten : (views : Option (List View)) → IsUnwritten (elim views [ None ↦ (Ask (entry.Attach s.who), s) | Some views ↦ (Said (Refused already_attached), s) ])
-  attach-unwritten None = refl
-  attach-unwritten (Some views) = refl
+  -- nor one that asks nothing
+  pub attach-unwritten : (who : ℕ) → IsUnwritten (Ask (entry.Attach who), s)
+  attach-unwritten who = refl
 
-  pub acquire-unwritten : (found : Result View Refusal) → IsUnwritten (elim found [ Err refusal ↦ (Said (Refused refusal), s) | Ok view ↦ (Ask (entry.Acquire s.who view.object view.number), s) ])
-  acquire-unwritten (Err refusal) = refl
-  acquire-unwritten (Ok view) = refl
-
-  pub assign-unwritten : (value : ℤ) (found : Result View Refusal) → IsUnwritten (elim found [ Err refusal ↦ (Said (Refused refusal), s) | Ok view ↦ (Said Done, with_view s (record view { private = Int value })) ])
-  assign-unwritten value (Err refusal) = refl
-  assign-unwritten value (Ok view) = refl
-
-  pub update-unwritten : (views : Option (List View)) → IsUnwritten (elim views [ None ↦ (Said (Refused not_attached), s) | Some views ↦ (Said Done, record s { views = Some (map updated views) }) ])
-  update-unwritten None = refl
-  update-unwritten (Some views) = refl
-
-  pub show-unwritten : (found : Result View Refusal) → IsUnwritten (elim found [ Err refusal ↦ (Said (Refused refusal), s) | Ok view ↦ (Said (Shown view.private), s) ])
-  show-unwritten (Err refusal) = refl
-  show-unwritten (Ok view) = refl
+  pub acquire-unwritten : (who : ℕ) (keep : List Seen) → IsUnwritten (Ask (entry.Acquire who keep [] []), s)
+  acquire-unwritten who keep = refl

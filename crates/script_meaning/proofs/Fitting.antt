@@ -1,183 +1,252 @@
--- A session's views stay fitting when a grant or a commit is made, by the session itself or by another one.
-use Rattle.std.specs.Prelude.{◌≡◌, ◌≢◌, ◌<◌, ◌≤◌, ◌+◌, ◌==◌, ◌⊎◌, ℕ, zero, suc, min, Bool, true, false, not, cond, List, [], ◌∷◌, ◌++◌, length, map, filter, Option, Some, None, slice_get, if◌then◌else◌, refl}
-use Rattle.std.proofs.Common.{◌∙◌, ap, sym, subst₂, ⊎_elim, arith}
-use Rattle.std.proofs.lemmas.Bool.{and_parts, eq-eqb, ne_eqb, true≢false, cases_eq}
-use Rattle.std.proofs.lemmas.Option.{none-some, same_Some, slice_get_within}
-use Rattle.aw_cell.specs.Cell.{same_cell}
-use Rattle.mv_core.specs.declared.entry.Change.{Change}
-use Rattle.mv_core.specs.Generations.{Bodies, change_of, changes_of, generations_from, generations, IsGeneration, latest_number}
-use Rattle.mv_core.specs.GenerationLaws.{IsGeneration-latest, IsGeneration-append, latest_number-changed, latest_body-changed, latest_number-unchanged}
-use Rattle.mv_core.specs.Owners.{owner_of}
+-- What keeps that the view of a session fits: its own commands, what follows a reply, and what other sessions do.
+use Rattle.std.specs.Prelude.{◌≡◌, ◌≢◌, ◌&&◌, ◌+◌, ℕ, ℤ, negsuc, min, Bool, true, false, not, cond, List, [], ◌∷◌, All, Option, Some, None, IfSome, slice_get, refl}
+use Rattle.std.specs.Option.{option_map}
+use Rattle.std.specs.Ordering.{int_eq}
+use Rattle.std.proofs.Common.{◌∙◌, ap, sym, subst, arith}
+use Rattle.std.proofs.lemmas.Bool.{and_from}
+use Rattle.std.proofs.lemmas.Bool.Decides.{Decides-int_eq}
+use Rattle.std.proofs.lemmas.List.Elements.{All-nil, All-cons, All-head, All-tail}
+use Rattle.aw_cell.specs.declared.cell.Cell.{Cell}
+use Rattle.aw_cell.specs.declared.cell.Cell.TheVariants.{Na, Num, Int, Text, Bool as Truth, Slot}
+use Rattle.aw_cell.specs.declared.cell.Kind.TheVariants as cells
+use Rattle.aw_schema.specs.declared.definition.Def.{Def}
+use Rattle.aw_schema.specs.declared.definition.DefKind.{DefKind}
+use Rattle.aw_schema.specs.declared.definition.DefKind.TheVariants.{Dimension, Relation, Valueset, Variable, Formula, Program, Aggmap}
+use Rattle.aw_schema.specs.Definitions.{is_kept}
+use Rattle.aw_var.specs.CellMap.{Cells}
+use Rattle.aw_body.specs.declared.body.Body.{Body}
+use Rattle.aw_body.specs.declared.body.Body.TheVariants.{Dim, Rel, Set, Var}
+use Rattle.aw_body.specs.declared.patch.BodyPatch.TheVariants.{Cells as CellPatch}
+use Rattle.aw_body.specs.Bodies.{IsBodyOf}
+use Rattle.aw_body.specs.BodyPatches.{applied}
+use Rattle.aw_body.specs.Fitting.{is_recorded, fits}
+use Rattle.aw_codec.specs.Records.{IsSpelled, IsKeyedCell, IsPatch}
+use Rattle.mv_view.specs.Each.{object_in}
+use Rattle.mv_view.specs.Recording.{CanBeRecorded, are_recorded}
+use Rattle.mv_view.specs.Rules as rule
+use Rattle.mv_view.specs.ViewState.{ObjectView, ViewState, IsSeen, object_of, each, kept_kinds}
+use Rattle.mv_view.specs.Fit as seen
+use Rattle.mv_view.proofs.callers.Each.{object_in-each}
+use Rattle.aw_body.specs.KeptBodies.{bodies_of}
 use Rattle.mv_core.specs.Workspace.{Workspace}
-use Rattle.mv_core.specs.Integers.{integers}
-use Rattle.ses_step.specs.declared.session.View.{View}
-use Rattle.ses_step.specs.Sessions.{is_staged, change_of_view, committed_view}
-use Rattle.script_meaning.specs.Fit.{ViewFits, ViewsFit}
-use Rattle.script_meaning.proofs.Elements.{slice_get-map_from, slice_get-filter_from, slice_get-found}
+use Rattle.ses_step.specs.Sessions.{is_single, is_single_at}
+use Rattle.script_meaning.specs.Fit.{CanBeWritten, CanBeCommitted, IsKeptOf, ViewFits}
+use Rattle.script_meaning.proofs.KeptKinds.{kept-here, here-kept}
+use Rattle.script_meaning.proofs.StoredBodies.{kept-applied}
 
--- ---- numbers of generations
+-- ---- bodies that can be recorded
 
-length-generations_from : {Body C : Type 0} (bodies : Bodies Body C) (body : Body) (changes : List C) → length (generations_from bodies body changes) ≡ suc (length changes)
-length-generations_from bodies body [] = refl
-length-generations_from bodies body (c ∷ changes) = ap suc (length-generations_from bodies (bodies.applied body c) changes)
+differs-test : (z : ℤ) → z ≢ negsuc 2147483647 → not (int_eq z (negsuc 2147483647)) ≡ true
+differs-test z differs = step (int_eq z (negsuc 2147483647)) refl
+  where
+    step : (same : Bool) → int_eq z (negsuc 2147483647) ≡ same → not same ≡ true
+    step true is = absurd (differs ((Decides-int_eq z (negsuc 2147483647)).0 is))
+    step false is = refl
 
--- no generation has a number above the latest one
-pub number-le-latest : {Body C : Type 0} (bodies : Bodies Body C) (history : List (List C)) (object number : ℕ) (body : Body) → IsGeneration bodies history object number body → number ≤ latest_number bodies history object
-number-le-latest bodies history object number body is =
-    let within = slice_get_within (generations bodies history object) is.0 body is.2 in
-    omega (arith, within, is.1, length-generations_from bodies (bodies.first object) (changes_of bodies object history))
+pub spelled-recorded : (cell : Cell) → IsSpelled cell → is_recorded cell ≡ true
+spelled-recorded Na is = refl
+spelled-recorded (Num units) is = refl
+spelled-recorded (Int z) is = differs-test z is.1
+spelled-recorded (Text text) is = refl
+spelled-recorded (Truth truth) is = refl
+spelled-recorded (Slot slot) is = refl
 
--- ---- what a commit of a session's staged views has for an object
+recorded-cells : (pairs : Cells) → All IsKeyedCell pairs → are_recorded pairs ≡ true
+recorded-cells [] all = refl
+recorded-cells (pair ∷ pairs) all =
+    and_from (is_recorded pair.1) (are_recorded pairs) (spelled-recorded pair.1 (All-head IsKeyedCell pair pairs all).2) (recorded-cells pairs (All-tail IsKeyedCell pair pairs all))
 
--- each view is of its place in the list, the first one's place being at
-abbrev pub NumberedFrom : ℕ → List View → Type 0
-NumberedFrom at views = (k : ℕ) (view : View) → slice_get views k ≡ Some view → view.object ≡ at + k
+-- a body that can be written can be recorded over one of its form, which of a dimension is the same one
+pub recorded-over : (kind : DefKind) (base body : Body) → IsBodyOf kind base → IsBodyOf kind body → CanBeWritten body → (kind ≡ Dimension → body ≡ base) → CanBeRecorded base body
+recorded-over Dimension (Dim values) body base_is body_is can same =
+    subst (CanBeRecorded (Dim values)) (sym (same refl)) (omega arith)
+recorded-over Dimension (Rel older) body base_is body_is can same = absurd base_is
+recorded-over Dimension (Set older) body base_is body_is can same = absurd base_is
+recorded-over Dimension (Var older) body base_is body_is can same = absurd base_is
+recorded-over (Relation target of) (Dim older) body base_is body_is can same = absurd base_is
+recorded-over (Relation target of) (Rel older) (Dim newer) base_is body_is can same = absurd body_is
+recorded-over (Relation target of) (Rel older) (Rel newer) base_is body_is can same = recorded-cells newer.cells can
+recorded-over (Relation target of) (Rel older) (Set newer) base_is body_is can same = absurd body_is
+recorded-over (Relation target of) (Rel older) (Var newer) base_is body_is can same = absurd body_is
+recorded-over (Relation target of) (Set older) body base_is body_is can same = absurd base_is
+recorded-over (Relation target of) (Var older) body base_is body_is can same = absurd base_is
+recorded-over (Valueset dimension) (Dim older) body base_is body_is can same = absurd base_is
+recorded-over (Valueset dimension) (Rel older) body base_is body_is can same = absurd base_is
+recorded-over (Valueset dimension) (Set older) (Dim newer) base_is body_is can same = absurd body_is
+recorded-over (Valueset dimension) (Set older) (Rel newer) base_is body_is can same = absurd body_is
+recorded-over (Valueset dimension) (Set older) (Set newer) base_is body_is can same = can.0
+recorded-over (Valueset dimension) (Set older) (Var newer) base_is body_is can same = absurd body_is
+recorded-over (Valueset dimension) (Var older) body base_is body_is can same = absurd base_is
+recorded-over (Variable cell dimensions) (Dim older) body base_is body_is can same = absurd base_is
+recorded-over (Variable cell dimensions) (Rel older) body base_is body_is can same = absurd base_is
+recorded-over (Variable cell dimensions) (Set older) body base_is body_is can same = absurd base_is
+recorded-over (Variable cell dimensions) (Var older) (Dim newer) base_is body_is can same = absurd body_is
+recorded-over (Variable cell dimensions) (Var older) (Rel newer) base_is body_is can same = absurd body_is
+recorded-over (Variable cell dimensions) (Var older) (Set newer) base_is body_is can same = absurd body_is
+recorded-over (Variable cell dimensions) (Var older) (Var newer) base_is body_is can same = recorded-cells newer.cells can
+recorded-over (Formula text) (Dim older) body base_is body_is can same = absurd base_is
+recorded-over (Formula text) (Rel older) body base_is body_is can same = absurd base_is
+recorded-over (Formula text) (Set older) body base_is body_is can same = absurd base_is
+recorded-over (Formula text) (Var older) body base_is body_is can same = absurd base_is
+recorded-over (Program text) (Dim older) body base_is body_is can same = absurd base_is
+recorded-over (Program text) (Rel older) body base_is body_is can same = absurd base_is
+recorded-over (Program text) (Set older) body base_is body_is can same = absurd base_is
+recorded-over (Program text) (Var older) body base_is body_is can same = absurd base_is
+recorded-over (Aggmap text) (Dim older) body base_is body_is can same = absurd base_is
+recorded-over (Aggmap text) (Rel older) body base_is body_is can same = absurd base_is
+recorded-over (Aggmap text) (Set older) body base_is body_is can same = absurd base_is
+recorded-over (Aggmap text) (Var older) body base_is body_is can same = absurd base_is
 
-pub numbered-tail : (at : ℕ) (view : View) (views : List View) → NumberedFrom at (view ∷ views) → NumberedFrom (at + 1) views
-numbered-tail at view views numbered k it is = omega (arith, numbered (suc k) it is)
+-- ---- what a session sees of one object
 
-abbrev pub changes_in : List View → List Change
-changes_in views = map change_of_view (filter is_staged views)
+-- three bodies of the definition's form, which can be committed
+pub record IsGood (found : ObjectView) : Type 0 where
+  pub forms : IsSeen found
+  pub commits : CanBeCommitted found
 
--- a view passed over, whether it is staged or not
-passed_over : (view : View) (views : List View) (object : ℕ) → view.object ≢ object → change_of integers object (changes_in (view ∷ views)) ≡ change_of integers object (changes_in views)
-passed_over view views object differs =
-    elim (is_staged view) as (λ staged. change_of integers object (map change_of_view (cond staged (view ∷ filter is_staged views) (filter is_staged views))) ≡ change_of integers object (changes_in views)) [
-      | true ↦ ap (λ same. cond same (Some (change_of_view view)) (change_of integers object (changes_in views))) (ne_eqb view.object object differs)
-      | false ↦ refl
-    ]
+pub good-if : (b : Bool) (changed found : ObjectView) → (b ≡ true → IsGood changed) → IsGood found → IsGood (cond b changed found)
+good-if true changed found new old = new refl
+good-if false changed found new old = old
 
-change_of-below : (at object : ℕ) (views : List View) → NumberedFrom at views → object < at → change_of integers object (changes_in views) ≡ None
-change_of-below at object [] numbered below = refl
-change_of-below at object (view ∷ views) numbered below =
-    passed_over view views object (omega (arith, numbered 0 view refl)) ∙ change_of-below (at + 1) object views (numbered-tail at view views numbered) (omega arith)
+-- a generation that is seen for the first time
+pub good-seen : (kind : DefKind) (number : ℕ) (body : Body) → IsKeptOf kind body → IsGood (record { kind = kind; number = number; base = body; staged = body; private = body; owned = false; leaving = false })
+good-seen kind number body it =
+    let recorded = recorded-over kind body body it.form.form it.form.form it.written (λ dimension. refl) in
+    record {
+      forms = record { base = it.form; staged = it.form; private = it.form };
+      commits = record { base = it.written; staged = (it.written, recorded); private = (it.written, recorded); staying = refl };
+    }
 
-abbrev pub staged_change : View → Option Change
-staged_change view = if is_staged view then Some (change_of_view view) else None
+pub good-staging : (found : ObjectView) → IsGood found → IsGood (rule.staging found)
+good-staging found it = record {
+  forms = record { base = it.forms.base; staged = it.forms.private; private = it.forms.private };
+  commits = record { base = it.commits.base; staged = it.commits.private; private = it.commits.private; staying = it.commits.staying };
+}
 
-change_of-first : (view : View) (views : List View) (object : ℕ) → view.object ≡ object → change_of integers object (changes_in views) ≡ None → change_of integers object (changes_in (view ∷ views)) ≡ staged_change view
-change_of-first view views object same none =
-    elim (is_staged view) as (λ staged. change_of integers object (map change_of_view (cond staged (view ∷ filter is_staged views) (filter is_staged views))) ≡ (if staged then Some (change_of_view view) else None)) [
-      | true ↦ ap (λ it. cond it (Some (change_of_view view)) (change_of integers object (changes_in views))) (eq-eqb view.object object same)
-      | false ↦ none
-    ]
+pub good-owning : (found : ObjectView) → IsGood found → IsGood (rule.owning found)
+good-owning found it = record {
+  forms = record { base = it.forms.base; staged = it.forms.staged; private = it.forms.private };
+  commits = record { base = it.commits.base; staged = it.commits.staged; private = it.commits.private; staying = refl };
+}
 
-change_of-at : (at object : ℕ) (views : List View) (k : ℕ) (view : View) → NumberedFrom at views → at + k ≡ object → slice_get views k ≡ Some view → change_of integers object (changes_in views) ≡ staged_change view
-change_of-at at object [] k view numbered is found = absurd (none-some view found)
-change_of-at at object (v ∷ views) zero view numbered is found =
-    change_of-first v views object (omega (arith, numbered 0 v refl)) (change_of-below (at + 1) object views (numbered-tail at v views numbered) (omega arith)) ∙ ap staged_change (same_Some v view found)
-change_of-at at object (v ∷ views) (suc k) view numbered is found =
-    passed_over v views object (omega (arith, numbered 0 v refl)) ∙ change_of-at (at + 1) object views k view (numbered-tail at v views numbered) (omega arith) found
+good-giving_up : (found : ObjectView) → IsGood found → IsGood (rule.giving_up found)
+good-giving_up found it = record {
+  forms = record { base = it.forms.base; staged = it.forms.staged; private = it.forms.private };
+  commits = record { base = it.commits.base; staged = it.commits.staged; private = it.commits.private; staying = refl };
+}
 
--- a change is that of a staged view
-pub changes_in-from : (views : List View) (k : ℕ) (change : Change) → slice_get (changes_in views) k ≡ Some change → (at : ℕ) × (view : View) × (slice_get views at ≡ Some view) × (change ≡ change_of_view view) × (is_staged view ≡ true)
-changes_in-from views k change is =
-    let mapped = slice_get-map_from change_of_view (filter is_staged views) k change is in
-    let passed = slice_get-filter_from is_staged views k mapped.0 mapped.1 in
-    (passed.0, mapped.0, passed.1, mapped.2, passed.2)
+-- the staged body is the base
+abbrev moved_on : ObjectView → ObjectView
+moved_on found = record found { number = min (found.number + 1) 18446744073709551615; base = found.staged }
 
-pub change_of-from : (views : List View) (object : ℕ) (change : Change) → change_of integers object (changes_in views) ≡ Some change → (at : ℕ) × (view : View) × (slice_get views at ≡ Some view) × (change ≡ change_of_view view) × (is_staged view ≡ true)
-change_of-from views object change is =
-    let found = slice_get-found (λ c. c.object == object) (changes_in views) change is in
-    changes_in-from views found.0 change found.1
+good-moved_on : (found : ObjectView) → (found.kind ≡ Dimension → found.private ≡ found.staged) → IsGood found → IsGood (moved_on found)
+good-moved_on found dimension it = record {
+  forms = record { base = it.forms.staged; staged = it.forms.staged; private = it.forms.private };
+  commits = record {
+    base = it.commits.staged.0;
+    staged = (it.commits.staged.0, recorded-over found.kind found.staged found.staged it.forms.staged.form it.forms.staged.form it.commits.staged.0 (λ same. refl));
+    private = (it.commits.private.0, recorded-over found.kind found.staged found.private it.forms.staged.form it.forms.private.form it.commits.private.0 dimension);
+    staying = it.commits.staying;
+  };
+}
 
-module _ (shared : Workspace Change) (who : ℕ) (views : List View) (fits : ViewsFit shared who views) where
-  views-numbered : NumberedFrom 0 views
-  views-numbered k view is = omega (arith, (fits.each k view is).place)
+pub good-committed : (found : ObjectView) → (found.kind ≡ Dimension → found.private ≡ found.staged) → IsGood found → IsGood (rule.after_commit found)
+good-committed found dimension it =
+    let committing = good-if (rule.is_staged found) (moved_on found) found (λ staged. good-moved_on found dimension it) it in
+    good-if found.owned (rule.leaving_now (rule.committing found)) found (λ own. good-if (rule.committing found).leaving (rule.giving_up (rule.committing found)) (rule.committing found) (λ leaving. good-giving_up (rule.committing found) committing) committing) it
 
-  pub change_of-view : (object : ℕ) (view : View) → slice_get views object ≡ Some view → change_of integers object (changes_in views) ≡ staged_change view
-  change_of-view object view found = change_of-at 0 object views object view views-numbered (omega arith) found
+-- ---- an assignment
 
--- ---- what a commit leaves of a view
+-- the one cell of an INTEGER variable without dimensions
+abbrev pub one_cell : ℤ → Cells
+one_cell value = ([], Int value) ∷ []
 
-abbrev pub committed : Workspace Change → List Change → Workspace Change
-committed shared changes = record shared { history = shared.history ++ changes ∷ [] }
+one-patch : (value : ℤ) → IsSpelled (Int value) → IsPatch (CellPatch (one_cell value))
+one-patch value spelled =
+    (and_from (is_recorded (Int value) && true) true (and_from (is_recorded (Int value)) true (spelled-recorded (Int value) spelled) refl) refl, omega arith, All-cons IsKeyedCell ([], Int value) [] (All-nil _, omega arith, spelled) (All-nil IsKeyedCell))
 
-module _ (shared : Workspace Change) (changes : List Change) (who object : ℕ) (view : View) (fits : ViewFits shared who object view) where
-  -- a view stays fitting that the commit doesn't change, or whose object is another session's
-  pub ViewFits-passed : (view.owned ≡ true → change_of integers object changes ≡ None) → ViewFits (committed shared changes) who object view
-  ViewFits-passed unchanged = record {
-    place = fits.place;
-    base = IsGeneration-append integers shared.history (changes ∷ []) object view.number view.base fits.base;
-    owned = fits.owned;
-    latest = λ own. fits.latest own ∙ sym (latest_number-unchanged integers shared.history changes object (unchanged own));
-    unstaged = fits.unstaged;
-    values = fits.values;
-  }
+one-fits : (value : ℤ) (body : Body) → IsSpelled (Int value) → fits (CellPatch (one_cell value)) (Variable cells.Int []) body ≡ true
+one-fits value body spelled = and_from (is_recorded (Int value) && true) true (and_from (is_recorded (Int value)) true (spelled-recorded (Int value) spelled) refl) refl
 
-  -- the staged body of a view that the commit changes is the latest generation
-  pub ViewFits-committed : change_of integers object changes ≡ staged_change view → (is_staged view ≡ true → view.number < 18446744073709551615) → ViewFits (committed shared changes) who object (committed_view view)
-  ViewFits-committed change small = by_staged (is_staged view) refl
-    where
-      by_staged : (staged : Bool) → is_staged view ≡ staged → ViewFits (committed shared changes) who object (elim staged [ true ↦ record view { number = min (view.number + 1) 18446744073709551615; base = view.staged } | false ↦ view ])
-      by_staged false e = ViewFits-passed (λ own. change ∙ ap (λ staged. if staged then Some (change_of_view view) else None) e)
-      by_staged true e =
-          let found : change_of integers object changes ≡ Some (change_of_view view) = change ∙ ap (λ staged. if staged then Some (change_of_view view) else None) e in
-          let own = (and_parts view.owned (not (same_cell view.staged view.base)) e).0 in
-          let risen = latest_number-changed integers shared.history changes object (change_of_view view) found in
-          let number : min (view.number + 1) 18446744073709551615 ≡ latest_number integers (shared.history ++ changes ∷ []) object = omega (arith, small e, fits.latest own, risen) in
-          record {
-            place = fits.place;
-            base = subst₂ (IsGeneration integers (shared.history ++ changes ∷ []) object) (sym number) (latest_body-changed integers shared.history changes object (change_of_view view) found) (IsGeneration-latest integers (shared.history ++ changes ∷ []) object);
-            owned = fits.owned;
-            latest = λ _. number;
-            unstaged = λ _. refl;
-            values = fits.values;
-          }
+pub good-written : (found : ObjectView) (value : ℤ) → found.kind ≡ Variable cells.Int [] → IsSpelled (Int value) → IsGood found → IsGood (rule.with_cells (one_cell value) found)
+good-written found value single spelled it =
+    let fit : fits (CellPatch (one_cell value)) found.kind found.private ≡ true = ap (λ (kind : DefKind). fits (CellPatch (one_cell value)) kind found.private) single ∙ one-fits value found.private spelled in
+    let new = kept-applied found.kind found.private (CellPatch (one_cell value)) (record { form = it.forms.private; written = it.commits.private.0 }) fit (one-patch value spelled) in
+    record {
+      forms = record { base = it.forms.base; staged = it.forms.staged; private = new.form };
+      commits = record {
+        base = it.commits.base;
+        staged = it.commits.staged;
+        private = (new.written, recorded-over found.kind found.base (applied found.private (CellPatch (one_cell value))) it.forms.base.form new.form.form new.written (λ dimension. other (sym single ∙ dimension)));
+        staying = it.commits.staying;
+      };
+    }
+  where
+    other : {A : Type 0} → Variable cells.Int [] ≡ Dimension → A
+    other is = cc
 
--- ---- what a grant leaves of a view
+single-variable : (kind : DefKind) → is_single kind ≡ true → kind ≡ Variable cells.Int []
+single-variable Dimension is = cc
+single-variable (Relation target base) is = cc
+single-variable (Valueset dimension) is = cc
+single-variable (Variable cells.Num dimensions) is = cc
+single-variable (Variable cells.Int []) is = refl
+single-variable (Variable cells.Int (dimension ∷ dimensions)) is = cc
+single-variable (Variable cells.Text dimensions) is = cc
+single-variable (Variable cells.Bool dimensions) is = cc
+single-variable (Variable cells.Slot dimensions) is = cc
+single-variable (Formula text) is = cc
+single-variable (Program text) is = cc
+single-variable (Aggmap text) is = cc
 
-abbrev pub granted_to : Workspace Change → ℕ → ℕ → Workspace Change
-granted_to shared object who = record shared { owners = (object, who) ∷ shared.owners }
+-- what is assigned is such a variable
+pub single-kind : (definitions : List Def) (object : ℕ) (kind : DefKind) → is_single_at definitions object ≡ true → object_in (kept_kinds definitions) object ≡ Some kind → kind ≡ Variable cells.Int []
+single-kind definitions object kind single kept =
+    let it = kept-here definitions object kind kept in
+    single-variable kind (sym (ap (λ (found : Option Def). elim found as (λ _. Bool) [ None ↦ false | Some def ↦ is_single def.kind ]) it.there ∙ ap is_single it.kind_is) ∙ single)
 
-pub owner_of-same : (owners : List (ℕ × ℕ)) (object who at : ℕ) → object ≡ at → owner_of ((object, who) ∷ owners) at ≡ Some who
-owner_of-same owners object who at same = ap (λ it. if it then Some who else owner_of owners at) (eq-eqb object at same)
+-- such a variable is kept
+pub single-kept : (definitions : List Def) (object : ℕ) → is_single_at definitions object ≡ true → (kind : DefKind) × (object_in (kept_kinds definitions) object ≡ Some kind)
+single-kept definitions object single = by_def (slice_get definitions object) refl single
+  where
+    by_def : (found : Option Def) → slice_get definitions object ≡ found → elim found as (λ _. Bool) [ None ↦ false | Some def ↦ is_single def.kind ] ≡ true → (kind : DefKind) × (object_in (kept_kinds definitions) object ≡ Some kind)
+    by_def None is single = cc
+    by_def (Some def) is single = (def.kind, here-kept definitions object def is (ap is_kept (single-variable def.kind single)))
 
-pub owner_of-other : (owners : List (ℕ × ℕ)) (object who at : ℕ) → object ≢ at → owner_of ((object, who) ∷ owners) at ≡ owner_of owners at
-owner_of-other owners object who at differs = ap (λ it. if it then Some who else owner_of owners at) (ne_eqb object at differs)
+-- ---- all objects
 
--- nobody owns the object, or the session does
-abbrev pub IsFree : Workspace Change → ℕ → ℕ → Type 0
-IsFree shared object who = (owner_of shared.owners object ≡ None) ⊎ (owner_of shared.owners object ≡ Some who)
+pub goods : (w : Workspace) (who : ℕ) (view : ViewState) → ViewFits w who view → (object : ℕ) → IfSome (object_of view object) IsGood
+goods w who view it object = both (object_of view object) (it.forms.each object) (it.each object)
+  where
+    both : (found : Option ObjectView) → IfSome found IsSeen → IfSome found CanBeCommitted → IfSome found IsGood
+    both None forms commits = tt
+    both (Some one) forms commits = record { forms = forms; commits = commits }
 
-owned_by_one : (shared : Workspace Change) (object who other : ℕ) → IsFree shared object who → other ≢ who → owner_of shared.owners object ≡ Some other → ⊥
-owned_by_one shared object who other free differs owned =
-    ⊎_elim (λ none. none-some other (sym none ∙ owned)) (λ own. differs (same_Some other who (sym owned ∙ own))) free
+each-good : (change : ℕ → ObjectView → ObjectView) (view : ViewState) → ((object : ℕ) (found : ObjectView) → object_of view object ≡ Some found → IsGood found → IsGood (change object found)) → ((object : ℕ) → IfSome (object_of view object) IsGood) → (object : ℕ) → IfSome (object_of (each change view) object) IsGood
+each-good change view keeps good object =
+    subst (λ (found : Option ObjectView). IfSome found IsGood) (sym (object_in-each 0 change view.objects object object (omega arith))) (some (object_of view object) refl (good object))
+  where
+    some : (found : Option ObjectView) → object_of view object ≡ found → IfSome found IsGood → IfSome (option_map (change object) found) IsGood
+    some None is old = tt
+    some (Some one) is old = keeps object one is old
 
-module _ (shared : Workspace Change) (object who : ℕ) where
-  pub ViewFits-not_granted : (other at : ℕ) (view : View) → object ≢ at → ViewFits shared other at view → ViewFits (granted_to shared object who) other at view
-  ViewFits-not_granted other at view differs fits =
-      let same = owner_of-other shared.owners object who at differs in
-      record {
-        place = fits.place;
-        base = fits.base;
-        owned = (λ own. same ∙ fits.owned.0 own, λ own. fits.owned.1 (sym same ∙ own));
-        latest = fits.latest;
-        unstaged = fits.unstaged;
-        values = fits.values;
-      }
+-- a view of good objects that fits
+pub view-fits : (w : Workspace) (who : ℕ) (view : ViewState) → view.who ≡ who → seen.Fits w.definitions (bodies_of w.definitions) w.history w.owners view → ((object : ℕ) → IfSome (object_of view object) IsGood) → ViewFits w who view
+view-fits w who view number fit good = record {
+  number = number;
+  fits = fit;
+  forms = record { each = λ object. forms (object_of view object) (good object) };
+  each = λ object. commits (object_of view object) (good object);
+}
+  where
+    forms : (found : Option ObjectView) → IfSome found IsGood → IfSome found IsSeen
+    forms None it = tt
+    forms (Some one) it = it.forms
 
-  pub ViewFits-granted_to_another : (other at : ℕ) (view : View) → other ≢ who → IsFree shared object who → ViewFits shared other at view → ViewFits (granted_to shared object who) other at view
-  ViewFits-granted_to_another other at view stranger free fits = ⊎_elim same_object (λ differs. ViewFits-not_granted other at view differs fits) (cases_eq object at)
-    where
-      same_object : object ≡ at → ViewFits (granted_to shared object who) other at view
-      same_object same =
-          let owner = owner_of-same shared.owners object who at same in
-          record {
-            place = fits.place;
-            base = fits.base;
-            owned = (λ own. absurd (owned_by_one shared object who other free stranger (ap (owner_of shared.owners) same ∙ fits.owned.0 own)), λ own. absurd (stranger (same_Some other who (sym own ∙ owner))));
-            latest = fits.latest;
-            unstaged = fits.unstaged;
-            values = fits.values;
-          }
+    commits : (found : Option ObjectView) → IfSome found IsGood → IfSome found CanBeCommitted
+    commits None it = tt
+    commits (Some one) it = it.commits
 
-  pub ViewFits-granted : (view : View) → view.number ≡ latest_number integers shared.history object → ViewFits shared who object view → ViewFits (granted_to shared object who) who object (record view { owned = true })
-  ViewFits-granted view latest fits = record {
-    place = fits.place;
-    base = fits.base;
-    owned = (λ _. owner_of-same shared.owners object who object refl, λ _. refl);
-    latest = λ _. latest;
-    unstaged = λ not_own. absurd (true≢false not_own);
-    values = fits.values;
-  }
+-- the objects of a view that fits are changed, each to a good one
+pub view-changed : (w after : Workspace) (who : ℕ) (view : ViewState) (change : ℕ → ObjectView → ObjectView) → ViewFits w who view → seen.Fits after.definitions (bodies_of after.definitions) after.history after.owners (each change view) → ((object : ℕ) (found : ObjectView) → object_of view object ≡ Some found → IsGood found → IsGood (change object found)) → ViewFits after who (each change view)
+view-changed w after who view change it fit keeps = view-fits after who (each change view) it.number fit (each-good change view keeps (goods w who view it))

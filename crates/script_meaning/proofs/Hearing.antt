@@ -1,15 +1,16 @@
 -- A refused line changes nothing, and the faults of commits are seen.
-use Rattle.std.specs.Prelude.{◌≡◌, ◌≢◌, ℕ, Bool, true, false, List, [], ◌∷◌, ◌++◌, Option, Some, None, is_some, Result, Ok, Err, slice_get, if◌then◌else◌, refl}
+use Rattle.std.specs.Prelude.{◌≡◌, ◌≢◌, ℕ, Bool, true, false, List, [], ◌∷◌, ◌++◌, Option, Some, None, is_some, Result, Ok, Err, if◌then◌else◌, refl}
 use Rattle.std.proofs.Common.{ap, sym, subst, ⊎_elim}
 use Rattle.std.proofs.lemmas.Bool.{true≢false}
-use Rattle.mv_core.specs.declared.entry.Change.{Change}
+use Rattle.aw_schema.specs.declared.definition.Def.{Def}
+use Rattle.aw_body.specs.KeptBodies.{bodies_of}
 use Rattle.mv_core.specs.declared.entry.Entry.{Entry}
-use Rattle.mv_core.specs.declared.entry.Entry.TheVariants as entry
+use Rattle.mv_core.specs.declared.entry.Entry.TheVariants.{Acquire, Commit, Release, Detach}
 use Rattle.mv_core.specs.declared.entry.Reply.{Reply}
-use Rattle.mv_core.specs.declared.entry.Reply.TheVariants.{Attached, Acquired, Committed, Owned, Newer, Stranger, Worn, Fault, NoMemory}
-use Rattle.mv_core.specs.Integers.{integers}
-use Rattle.mv_core.specs.SharedStep.{reply_of, workspace_after}
+use Rattle.mv_core.specs.declared.entry.Reply.TheVariants.{Attached, Acquired, Resynced, Committed, Released, Detached, Owned, Newer, Stranger, Worn, TooLarge, Fault, NoMemory}
+use Rattle.mv_core.specs.SharedStep.{shared_step, workspace_after}
 use Rattle.mv_core.specs.Workspace.{Workspace, standing}
+use Rattle.aw_store.proofs.callers.Plain.{IsPlain, plain-reply}
 use Rattle.ses_report.specs.declared.refusal.Refusal.{Refusal}
 use Rattle.ses_step.specs.declared.line.Command.{Command}
 use Rattle.ses_step.specs.declared.line.Line.{Line}
@@ -17,7 +18,7 @@ use Rattle.ses_step.specs.declared.line.Line.TheVariants as line
 use Rattle.ses_step.specs.declared.session.Known.{Known as Session}
 use Rattle.ses_step.specs.Lines.{line_form}
 use Rattle.script_meaning.proofs.Begins.{IsOwn, begins}
-use Rattle.script_meaning.proofs.FittingTurns.{acquire_reply-cases, commit_reply-cases}
+use Rattle.script_meaning.proofs.CutOff.{cut_off-cases}
 use Rattle.script_world.specs.Meaning as world
 use Rattle.script_world.specs.Outcomes.{Outcome, on_disk, among}
 use Rattle.script_world.proofs.callers.DiskFits.{step-holds}
@@ -30,7 +31,7 @@ use Rattle.script_meaning.specs.Matching.{SameState}
 use Rattle.ses_report.specs.Reports as report
 use Rattle.ses_report.specs.Refusals.{no_form}
 use Rattle.script_world.proofs.callers.Refusals.{Mild, refusal_changes_nothing}
-use Rattle.script_meaning.specs.Language.{store_writing, Waiting, begun_of, begin, finish, form_of, can_define, defined_by, define, HistoryDisk, HistoryWorld, history_machine, by_history}
+use Rattle.script_meaning.specs.Language.{store_writing, Waiting, begun_of, begin, finish, form_of, can_define, defined_by, define, integer, HistoryDisk, HistoryWorld, kept_step, history_machine, by_history}
 
 abbrev QuietForm : world.Form (Option Command) → Type 0
 QuietForm (world.malformed refusal) = is_fault refusal ≡ false
@@ -42,18 +43,18 @@ quiet_form line.Malformed = refl
 quiet_form (line.Definition name) = tt
 quiet_form (line.Session name command) = tt
 
-abbrev QuietResult : Result (List (List ℕ)) Refusal → Type 0
+abbrev QuietResult : Result (List Def) Refusal → Type 0
 QuietResult (Ok d) = Unit {0}
 QuietResult (Err refusal) = is_fault refusal ≡ false
 
-quiet_define : (d : List (List ℕ)) (lines : List (List ℕ)) → QuietResult (define d lines)
+quiet_define : (d : List Def) (lines : List (List ℕ)) → QuietResult (define d lines)
 quiet_define d [] = refl
 quiet_define d (text ∷ texts) = by_line (line_form text)
   where
     by_line : (l : Line) → QuietResult (defined_by d l)
     by_line (line.Definition name) = by_test (can_define d name)
       where
-        by_test : (can : Bool) → QuietResult (if can then Ok (d ++ name ∷ []) else Err no_form)
+        by_test : (can : Bool) → QuietResult (if can then Ok (d ++ integer name ∷ []) else Err no_form)
         by_test true = tt
         by_test false = refl
     by_line line.Blank = refl
@@ -69,47 +70,77 @@ own_quiet : (refusal : Refusal) → IsOwn refusal → is_fault refusal ≡ false
 own_quiet refusal own =
     ⊎_elim (λ is. ap is_fault is) (λ rest. ⊎_elim (λ is. ap is_fault is) (λ is. ap is_fault is) rest) own
 
-gentle : (d : List (List ℕ)) (s : Session) (statement : Option Command) → Gentle s (begin d s statement)
+gentle : (d : List Def) (s : Session) (statement : Option Command) → Gentle s (begin d s statement)
 gentle d s None = (refl, λ refused. refl)
 gentle d s (Some command) =
-    begins d s command (λ b. Gentle s (begun_of b)) (λ refusal own. (own_quiet refusal own, λ refused. refl)) (λ it asked. refl) (refl, λ refused. refl) (λ name value is views at view attached found. (refl, λ refused. absurd (true≢false (sym refused)))) (λ views attached. (refl, λ refused. absurd (true≢false (sym refused)))) (λ cell. (refl, λ refused. refl))
+    begins d s command (λ b. Gentle s (begun_of b)) (λ refusal own. (own_quiet refusal own, λ refused. refl)) (λ it asked. refl) (refl, λ refused. refl) (λ name value object assigned. (refl, λ refused. absurd (true≢false (sym refused)))) (λ view is attached. (refl, λ refused. absurd (true≢false (sym refused)))) (λ name object shown. (refl, λ refused. refl))
 
-gentle_said : (d : List (List ℕ)) (s : Session) (statement : Option Command) (answer : report.Answer) (after : Session) → begin d s statement ≡ world.said answer after → Gentle s (world.said answer after)
+gentle_said : (d : List Def) (s : Session) (statement : Option Command) (answer : report.Answer) (after : Session) → begin d s statement ≡ world.said answer after → Gentle s (world.said answer after)
 gentle_said d s statement answer after is = subst (Gentle s) is (gentle d s statement)
 
-gentle_ask : (d : List (List ℕ)) (s : Session) (statement : Option Command) (it : Entry) (waiting : Waiting) → begin d s statement ≡ world.ask it waiting → waiting ≡ (s, it)
+gentle_ask : (d : List Def) (s : Session) (statement : Option Command) (it : Entry) (waiting : Waiting) → begin d s statement ≡ world.ask it waiting → waiting ≡ (s, it)
 gentle_ask d s statement it waiting is = subst (Gentle s) is (gentle d s statement)
 
 -- a reply of the step tells of no fault, whatever was asked
-reply_quiet : (d names : List (List ℕ)) (waiting : Waiting) (reply : Reply) → reply ≢ Fault → refuses_so is_fault (finish d names waiting reply).0.refusal ≡ false
+reply_quiet : (d : List Def) (names : List (List ℕ)) (waiting : Waiting) (reply : Reply) → reply ≢ Fault → refuses_so is_fault (finish d names waiting reply).0.refusal ≡ false
 reply_quiet d names waiting (Attached fresh) other = refl
-reply_quiet d names waiting Acquired other = refl
+reply_quiet d names waiting (Acquired fresh) other = refl
+reply_quiet d names waiting (Resynced fresh) other = refl
 reply_quiet d names waiting Committed other = refl
+reply_quiet d names waiting Released other = refl
+reply_quiet d names waiting Detached other = refl
 reply_quiet d names waiting (Owned object by) other = refl
 reply_quiet d names waiting (Newer object number) other = refl
 reply_quiet d names waiting (Stranger object) other = refl
 reply_quiet d names waiting (Worn object) other = refl
+reply_quiet d names waiting (TooLarge bytes) other = refl
 reply_quiet d names waiting NoMemory other = refl
 reply_quiet d names waiting Fault other = absurd (other refl)
 
-no_fault : (shared : Workspace Change) (it : Entry) → reply_of (standing integers shared) it ≢ Fault
-no_fault shared (entry.Attach who) = λ same. cc
-no_fault shared (entry.Acquire who object number) =
-    acquire_reply-cases (λ reply. reply ≢ Fault) (slice_get (standing integers shared) object) who object number (λ at same. cc) (λ at by same. cc) (λ at latest same. cc) (λ found is may same. cc)
-no_fault shared (entry.Commit who changes) =
-    commit_reply-cases (λ reply. reply ≢ Fault) (standing integers shared) who changes (λ at same. cc) (λ at same. cc) (λ own unworn same. cc)
+no_fault : (shared : Workspace) (it : Entry) → (kept_step shared it).0 ≢ Fault
+no_fault shared it =
+    cut_off-cases shared it (shared_step (bodies_of shared.definitions) shared it) (λ r. r.0 ≢ Fault) (λ bytes granted long same. cc)
+    (λ kept same. absurd (subst IsPlain same (plain-reply shared.definitions (standing (bodies_of shared.definitions) shared) it)))
 
--- where a reply of the step refuses, all is as it was
-abbrev Calm : List (List ℕ) → List (List ℕ) → Workspace Change → Session → Entry → Reply → Type 0
-Calm d names shared s it reply =
-    is_some (finish d names (s, it) reply).0.refusal ≡ true → ((finish d names (s, it) reply).1 ≡ s) × (workspace_after shared it reply ≡ shared)
+-- what a refusal leaves of the shared state
+abbrev is_grant : Reply → Bool
+is_grant (Acquired fresh) = true
+is_grant Committed = true
+is_grant Released = true
+is_grant Detached = true
+is_grant _ = false
 
-calm : (d names : List (List ℕ)) (shared : Workspace Change) (s : Session) (it : Entry) → Calm d names shared s it (reply_of (standing integers shared) it)
-calm d names shared s (entry.Attach who) = λ refused. absurd (true≢false (sym refused))
-calm d names shared s (entry.Acquire who object number) =
-    acquire_reply-cases (Calm d names shared s (entry.Acquire who object number)) (slice_get (standing integers shared) object) who object number (λ at refused. (refl, refl)) (λ at by refused. (refl, refl)) (λ at latest refused. (refl, refl)) (λ found is may refused. absurd (true≢false (sym refused)))
-calm d names shared s (entry.Commit who changes) =
-    commit_reply-cases (Calm d names shared s (entry.Commit who changes)) (standing integers shared) who changes (λ at refused. (refl, refl)) (λ at refused. (refl, refl)) (λ own unworn refused. absurd (true≢false (sym refused)))
+workspace-refused : (w : Workspace) (asked : Entry) (reply : Reply) → is_grant reply ≡ false → workspace_after w asked reply ≡ w
+workspace-refused w (Acquire who keep fresh same) (Acquired latest) refused = cc
+workspace-refused w (Commit who changes leave) Committed refused = cc
+workspace-refused w (Release who listed) Released refused = cc
+workspace-refused w (Detach who) Detached refused = cc
+workspace-refused w _ _ refused = refl
+
+-- where a reply refuses, all is as it was
+abbrev Calm : List Def → List (List ℕ) → Workspace → Session → Entry → Reply × Workspace → Type 0
+Calm d names shared s it r =
+    is_some (finish d names (s, it) r.0).0.refusal ≡ true → ((finish d names (s, it) r.0).1 ≡ s) × (r.1 ≡ shared)
+
+calm_reply : (d : List Def) (names : List (List ℕ)) (shared : Workspace) (s : Session) (it : Entry) (reply : Reply) → Calm d names shared s it (reply, workspace_after shared it reply)
+calm_reply d names shared s it (Attached fresh) = λ refused. absurd (true≢false (sym refused))
+calm_reply d names shared s it (Acquired fresh) = λ refused. absurd (true≢false (sym refused))
+calm_reply d names shared s it (Resynced fresh) = λ refused. absurd (true≢false (sym refused))
+calm_reply d names shared s it Committed = λ refused. absurd (true≢false (sym refused))
+calm_reply d names shared s it Released = λ refused. absurd (true≢false (sym refused))
+calm_reply d names shared s it Detached = λ refused. absurd (true≢false (sym refused))
+calm_reply d names shared s it NoMemory = λ refused. absurd (true≢false (sym refused))
+calm_reply d names shared s it (Owned object by) = λ refused. (refl, workspace-refused shared it (Owned object by) refl)
+calm_reply d names shared s it (Newer object number) = λ refused. (refl, workspace-refused shared it (Newer object number) refl)
+calm_reply d names shared s it (Stranger object) = λ refused. (refl, workspace-refused shared it (Stranger object) refl)
+calm_reply d names shared s it (Worn object) = λ refused. (refl, workspace-refused shared it (Worn object) refl)
+calm_reply d names shared s it (TooLarge bytes) = λ refused. (refl, workspace-refused shared it (TooLarge bytes) refl)
+calm_reply d names shared s it Fault = λ refused. (refl, workspace-refused shared it Fault refl)
+
+calm : (d : List Def) (names : List (List ℕ)) (shared : Workspace) (s : Session) (it : Entry) → Calm d names shared s it (kept_step shared it)
+calm d names shared s it =
+    let r = shared_step (bodies_of shared.definitions) shared it in
+    cut_off-cases shared it r (Calm d names shared s it) (λ bytes granted long refused. (refl, refl)) (λ kept. calm_reply d names shared s it r.0)
 
 pub language_hears : Hears is_fault fault_answer store_writing history_machine
 language_hears = record {
@@ -118,7 +149,7 @@ language_hears = record {
   late = λ lines. refl;
   crowded = refl;
   begins = λ d s statement answer after is. (gentle_said d s statement answer after is).0;
-  finishes = λ d names shared waiting it. reply_quiet d names waiting (reply_of (standing integers shared) it) (no_fault shared it);
+  finishes = λ d names shared waiting it. reply_quiet d names waiting (kept_step shared it).0 (no_fault shared it);
   faults = λ d names waiting. refl;
   fault_tells = refl;
 }

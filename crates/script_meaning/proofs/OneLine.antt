@@ -3,6 +3,7 @@ use Rattle.std.specs.Prelude.{◌≡◌, ◌≢◌, ◌++◌, ℕ, Bool, true, f
 use Rattle.std.proofs.Common.{◌∙◌, ap, sym, subst, arith, append_assoc, append-nil}
 use Rattle.std.proofs.lemmas.Bool.{true≢false}
 use Rattle.std.proofs.lemmas.List.{append_cancel_left}
+use Rattle.aw_schema.specs.declared.definition.Def.{Def}
 use Rattle.aw_codec.specs.declared.record.Decoded.{Decoded}
 use Rattle.mv_core.specs.declared.entry.Entry.{Entry}
 use Rattle.mv_core.specs.declared.entry.Reply.{Reply}
@@ -43,7 +44,7 @@ one-begun : (first : Begun) (session : Session) → OneLineOf (begun_of (first, 
 one-begun (Said answer) session = one-line answer
 one-begun (Ask asked) session = tt
 
-one-statement : (d : List (List ℕ)) (s : Session) (statement : Option Command) → OneLineOf (begin d s statement)
+one-statement : (d : List Def) (s : Session) (statement : Option Command) → OneLineOf (begin d s statement)
 one-statement d s None = refl
 one-statement d s (Some own) = one-begun (begun d s own).0 (begun d s own).1
 

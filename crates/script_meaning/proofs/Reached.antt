@@ -1,23 +1,20 @@
 -- Every world of a run fits what is committed and owned, and its records stand for the commits.
-use Rattle.std.specs.Prelude.{◌≡◌, ◌<◌, ◌&&◌, ◌++◌, ℕ, true, List, [], ◌∷◌, length, Option, Some, None, IsSome, nat_le, unwrap_or, slice_get, if◌then◌else◌, refl}
+use Rattle.std.specs.Prelude.{◌≡◌, ◌<◌, ◌&&◌, ◌++◌, ℕ, true, List, [], ◌∷◌, length, Option, Some, None, IfSome, IsSome, unwrap_or, slice_get, if◌then◌else◌, refl}
 use Rattle.std.specs.Option.{ForSome}
-use Rattle.std.specs.List.{list_all}
 use Rattle.std.proofs.Common.{◌∙◌, ap, ap₂, sym, subst, ⊎_elim, arith, append-nil}
-use Rattle.std.proofs.lemmas.Bool.{and_parts, leb-true, true≢false}
+use Rattle.std.proofs.lemmas.Bool.{and_parts, true≢false}
 use Rattle.std.proofs.lemmas.Option.{none-some, same_Some, slice_get_cases}
-use Rattle.aw_cell.specs.declared.cell.Cell.TheVariants.{Na}
+use Rattle.aw_schema.specs.declared.definition.Def.{Def}
+use Rattle.aw_body.specs.declared.change.Change.{Change}
+use Rattle.aw_body.specs.Owners.{owner_of}
 use Rattle.aw_codec.specs.declared.record.Decoded.{Decoded}
 use Rattle.aw_codec.specs.declared.record.Decoded.TheVariants.{Definitions, Commit}
-use Rattle.aw_codec.specs.Records.{are_distinct, AreDefinable}
 use Rattle.aw_store.specs.Images.{AreRecords}
-use Rattle.aw_store.specs.Replay.{can_replay, names_of, commits_of, workspace_of, is_commit_among}
-use Rattle.mv_core.specs.declared.entry.Change.{Change}
-use Rattle.mv_core.specs.Generations.{changes_of}
-use Rattle.mv_core.specs.Integers.{integers}
-use Rattle.mv_core.specs.Owners.{owner_of}
+use Rattle.aw_store.specs.Replay.{are_replayed, are_accepted_after, are_commits_after, can_replay, definitions_of, commits_of, workspace_of}
 use Rattle.mv_core.specs.Workspace.{Workspace}
+use Rattle.mv_view.specs.Each.{object_in}
+use Rattle.mv_view.specs.ViewState.{ViewState, kept_kinds}
 use Rattle.ses_step.specs.declared.session.Known.{Known as Session}
-use Rattle.ses_step.specs.declared.session.View.{View}
 use Rattle.ses_step.specs.Sessions.{new_session}
 use Rattle.script_world.specs.Worlds.{Event, script_ends, with_session, closed, world_after}
 use Rattle.script_world.specs.Outcomes as disk
@@ -29,21 +26,23 @@ use Rattle.script_world.proofs.callers.Told.{used-opening}
 use Rattle.script_world.proofs.callers.Fits as all
 use Rattle.script_world.proofs.callers.DiskFits.{Both, recorded_lawful}
 use Rattle.script_meaning.specs.CrashRuns.{LeavesARunOf, LeavesWhatOpens}
-use Rattle.script_meaning.specs.Fit.{SharedFits, IsAttached, WorldFits}
+use Rattle.script_meaning.specs.Fit.{AreDefinable, IsKeptOf, SharedFits, IsAttached, WorldFits}
+use Rattle.script_meaning.specs.Generations.{latest_body}
 use Rattle.script_meaning.specs.Language.{language, is_any, store_writing, history_machine, HistoryDisk, HistoryWorld, by_history}
 use Rattle.script_meaning.specs.Matching.{CanBeOpened, StandFor, RecordsMatch, EndMatches}
 use Rattle.script_meaning.specs.SameRecords.{SameRecords}
 use Rattle.script_meaning.specs.Transcript.{opening, world_at, attempts}
+use Rattle.script_meaning.proofs.Defining.{drafted-none, definable-drafted}
 use Rattle.script_meaning.proofs.Keeping.{Sound, Fits, Spoken, Defined, language_lawful, faults_keep, lines_spoken}
 use Rattle.script_meaning.proofs.Records.{Match, Stands, commits_recorded}
-use Rattle.script_meaning.proofs.StoredValues.{fold-value, changes_of-values}
+use Rattle.script_meaning.proofs.StoredBodies.{first-kept, stored-kept}
 
 module _ (records : List Decoded) (next : ℕ → Outcome) where
   -- the state is sound for so many sessions, and the records stand for it
-  abbrev SoundOn : List (List ℕ) → HistoryDisk → ℕ → Type 0
+  abbrev SoundOn : List Def → HistoryDisk → ℕ → Type 0
   SoundOn d disk count = Both store_writing history_machine next Spoken (Defined records) Sound Fits records Stands d disk count
 
-  abbrev FitsOn : List (List ℕ) → HistoryDisk → ℕ → Session → Type 0
+  abbrev FitsOn : List Def → HistoryDisk → ℕ → Session → Type 0
   FitsOn d disk who s = Fits d disk.state who s
 
   -- every world on a disk that had these records
@@ -68,7 +67,7 @@ opening_stands names records next can = by_records records can.spellings can.rep
   where
     by_records : (records : List Decoded) → AreRecords records → can_replay records ≡ true → WorldStands records next (opening names records)
     by_records [] are can =
-        all.begins_so (on_disk store_writing next history_machine) Spoken (Defined []) (SoundOn [] next) (FitsOn [] next) (lawful [] next) (opening names []) refl (λ none. (record { few = omega arith; named = refl; distinct = refl }, refl)) (λ disk is. absurd (none-some disk is))
+        all.begins_so (on_disk store_writing next history_machine) Spoken (Defined []) (SoundOn [] next) (FitsOn [] next) (lawful [] next) (opening names []) refl (λ none. (drafted-none, refl)) (λ disk is. absurd (none-some disk is))
     by_records (Commit changes ∷ records) are can = absurd (true≢false (sym can))
     by_records (Definitions defined ∷ records) are can =
         all.begins_so (on_disk store_writing next history_machine) Spoken (Defined those) (SoundOn those next) (FitsOn those next) (lawful those next) (opening names those) refl (λ none. absurd (none-some disk (sym none))) (λ other is. subst (λ (it : HistoryDisk). SoundOn those next defined it 0) (same_Some disk other is) sound)
@@ -79,50 +78,52 @@ opening_stands names records next can = by_records records can.spellings can.rep
         disk : HistoryDisk
         disk = record { state = workspace_of those []; opened = None; tried = [] }
 
-        tests : (nat_le (length defined) 4096 ≡ true) × (are_distinct defined ≡ true)
-        tests =
-            and_parts (nat_le (length defined) 4096) (are_distinct defined) (and_parts (nat_le (length defined) 4096 && are_distinct defined) (list_all (is_commit_among (length defined)) records) can).0
+        kinds : (are_replayed defined ≡ true) × ((are_accepted_after [] defined && are_commits_after defined [] records) ≡ true)
+        kinds = and_parts (are_replayed defined) (are_accepted_after [] defined && are_commits_after defined [] records) can
+
+        parts : (are_accepted_after [] defined ≡ true) × (are_commits_after defined [] records ≡ true)
+        parts = and_parts (are_accepted_after [] defined) (are_commits_after defined [] records) kinds.1
 
         sound : SoundOn those next defined disk 0
         sound = record {
           sound = record {
-            definable = record { few = leb-true (length defined) 4096 tests.0; named = are.0.1; distinct = tests.1 };
-            objects = refl;
-            values = λ object. fold-value Na (changes_of integers object (commits_of records)) refl (changes_of-values object records are.1);
+            definable = record { stored = are.0; replayed = kinds.0; accepted = parts.0 };
+            definitions_are = refl;
+            bodies = stored-kept defined records [] are.1 parts.1 (first-kept defined are.0);
             owners = λ object by is. absurd (none-some by is);
           };
-          stands = subst (λ those. Match those defined (commits_of records)) (sym (append-nil those)) (record { names = refl; commits = refl; replayable = can; spellings = are });
+          stands = subst (λ those. Match those defined (commits_of records)) (sym (append-nil those)) (record { definitions_are = refl; commits = refl; replayable = can; spellings = are });
         }
 
 pub opening_sessions : (names : List (List ℕ)) (records : List Decoded) (who : ℕ) (session : Session) → slice_get (opening names records).sessions who ≡ Some session → session ≡ new_session who
-opening_sessions names records who session = by_names (names_of records)
+opening_sessions names records who session = by_definitions (definitions_of records)
   where
-    by_names : (defined : Option (List (List ℕ))) → (let w : HistoryWorld = disk.opening names defined (workspace_of records []) in slice_get w.sessions who ≡ Some session) → session ≡ new_session who
-    by_names None found = all.first-session language 0 names who session found ∙ ap new_session (omega arith)
-    by_names (Some those) found = all.first-session language 0 names who session found ∙ ap new_session (omega arith)
+    by_definitions : (defined : Option (List Def)) → (let w : HistoryWorld = disk.opening names defined (workspace_of records []) in slice_get w.sessions who ≡ Some session) → session ≡ new_session who
+    by_definitions None found = all.first-session language 0 names who session found ∙ ap new_session (omega arith)
+    by_definitions (Some those) found = all.first-session language 0 names who session found ∙ ap new_session (omega arith)
 
 -- ---- any world of a run
 
 -- an attached session is one that owns
-owner_attached : (d : List (List ℕ)) (sessions : List Session) (shared : Workspace Change) (by : ℕ) → by < length sessions → ((who : ℕ) → ForSome (slice_get sessions who) (Fits d shared who)) → (object : ℕ) → owner_of shared.owners object ≡ Some by → IsAttached sessions by
+owner_attached : (d : List Def) (sessions : List Session) (shared : Workspace) (by : ℕ) → by < length sessions → ((who : ℕ) → ForSome (slice_get sessions who) (Fits d shared who)) → (object : ℕ) → owner_of shared.owners object ≡ Some by → IsAttached sessions by
 owner_attached d sessions shared by inside each object owned =
-    ⊎_elim (λ found. (found.0, found.2, by_views found.0 (each by found.0 found.2) found.0.views refl)) (λ past. absurd (omega (arith, inside, past.0))) (slice_get_cases sessions by).1
+    ⊎_elim (λ found. (found.0, found.2, by_view found.0 (each by found.0 found.2) found.0.view refl)) (λ past. absurd (omega (arith, inside, past.0))) (slice_get_cases sessions by).1
   where
-    by_views : (session : Session) → Fits d shared by session → (views : Option (List View)) → session.views ≡ views → IsSome views
-    by_views session fits None none = absurd (fits.owns none object owned)
-    by_views session fits (Some views) is = refl
+    by_view : (session : Session) → Fits d shared by session → (view : Option ViewState) → session.view ≡ view → IsSome session.view
+    by_view session fits None none = absurd (fits.owns none object owned)
+    by_view session fits (Some view) is = subst IsSome (sym is) refl
 
 module _ (records : List Decoded) (next : ℕ → Outcome) (w : HistoryWorld) (it : WorldStands records next w) where
   stands_fit : (disk : HistoryDisk) → w.shared ≡ Some disk → SharedFits w.definitions w.sessions disk.state
   stands_fit disk is =
       let fit = it.shared disk is in
       record {
-        objects = fit.sound.sound.objects;
+        definitions_are = fit.sound.sound.definitions_are;
         each = λ who session found. (fit.each who session found).session;
-        values = fit.sound.sound.values;
+        bodies = λ object. subst (λ (those : List Def). IfSome (object_in (kept_kinds those) object) (λ kind. IsKeptOf kind (latest_body disk.state object))) fit.sound.sound.definitions_are (fit.sound.sound.bodies object);
         owners = λ object by owned.
             let owner = fit.sound.sound.owners object by owned in
-            (owner.0, owner_attached w.definitions w.sessions disk.state by owner.1 fit.each object owned);
+            (subst (λ (those : List Def). IsSome (object_in (kept_kinds those) object)) fit.sound.sound.definitions_are owner.0, owner_attached w.definitions w.sessions disk.state by owner.1 fit.each object owned);
       }
 
   pub world_fits : WorldFits w
@@ -134,7 +135,7 @@ module _ (records : List Decoded) (next : ℕ → Outcome) (w : HistoryWorld) (i
   }
     where
       by_shared : (shared : Option HistoryDisk) → w.shared ≡ shared → AreDefinable w.definitions
-      by_shared None none = (it.defined none).0
+      by_shared None none = definable-drafted w.definitions (it.defined none).0
       by_shared (Some disk) is = (it.shared disk is).sound.sound.definable
 
   -- ---- the records that are settled
@@ -156,9 +157,9 @@ module _ (records : List Decoded) (next : ℕ → Outcome) (w : HistoryWorld) (i
       by_shared (Some disk) is = record {
         opens = record { spellings = match.spellings; replayable = match.replayable };
         stand_for = λ other same. subst (λ (it : HistoryDisk). StandFor those w.definitions it.state) (same_Some disk other same) (record {
-          names = match.names;
+          definitions_are = match.definitions_are;
           commits = match.commits;
-          workspace = ap₂ (λ (objects : ℕ) (history : List (List Change)). let it : Workspace Change = record { objects = objects; history = history; owners = disk.state.owners } in it) (ap (λ names. length (unwrap_or names [])) match.names ∙ sym fit.sound.sound.objects) match.commits;
+          workspace = ap₂ (λ (definitions : List Def) (history : List (List Change)). let it : Workspace = record { definitions = definitions; history = history; owners = disk.state.owners } in it) (ap (λ (found : Option (List Def)). unwrap_or found []) match.definitions_are ∙ sym fit.sound.sound.definitions_are) match.commits;
         });
         unopened = λ none. absurd (none-some disk (sym none));
       }
@@ -215,26 +216,26 @@ always_end names records coming events can = by_shared after.shared refl
         before : HistoryWorld
         before = world_at names records coming events
 
-        ended : List (List ℕ) → HistoryWorld
+        ended : List Def → HistoryWorld
         ended d = if is_any d then closed (by_history coming).opens before else before
 
         same : after ≡ ended before.definitions
         same = world_after-append (by_history coming) (opening names records) events (script_ends ∷ [])
 
-        by_any : (d : List (List ℕ)) → before.definitions ≡ d → (ended d).shared ≡ None → (ended d).definitions ≡ []
+        by_any : (d : List Def) → before.definitions ≡ d → (ended d).shared ≡ None → (ended d).definitions ≡ []
         by_any [] is none = is
-        by_any (name ∷ d) is none = absurd (none-some _ (sym none))
+        by_any (def ∷ d) is none = absurd (none-some _ (sym none))
 
-    by_shared : (shared : Option HistoryDisk) → after.shared ≡ shared → unwrap_or (names_of (settled_records records (attempts names records coming all_events))) [] ≡ after.definitions
-    by_shared None none = ap (λ (those : List Decoded). unwrap_or (names_of those) []) (matches.unopened none) ∙ sym (none_defined none)
-    by_shared (Some disk) is = ap (λ (names : Option (List (List ℕ))). unwrap_or names []) (matches.stand_for disk is).names
+    by_shared : (shared : Option HistoryDisk) → after.shared ≡ shared → unwrap_or (definitions_of (settled_records records (attempts names records coming all_events))) [] ≡ after.definitions
+    by_shared None none = ap (λ (those : List Decoded). unwrap_or (definitions_of those) []) (matches.unopened none) ∙ sym (none_defined none)
+    by_shared (Some disk) is = ap (λ (found : Option (List Def)). unwrap_or found []) (matches.stand_for disk is).definitions_are
 
 -- ---- what a crash leaves
 
 module _ (names : List (List ℕ)) (records : List Decoded) (coming : List Outcome) (events : List Event) where
   pub leaves_a_run_of : LeavesARunOf names records coming events
   leaves_a_run_of =
-      leaves_a_run store_writing history_machine (opening names records) (among coming) events (used-opening language Decoded (Workspace Change) names (names_of records) (workspace_of records [])) SameRecords records
+      leaves_a_run store_writing history_machine (opening names records) (among coming) events (used-opening language Decoded (Workspace) names (definitions_of records) (workspace_of records [])) SameRecords records
 
   pub leaves_what_opens : CanBeOpened records → LeavesWhatOpens names records coming events
   leaves_what_opens can ended left may =

@@ -1,48 +1,51 @@
 -- The records of a run stand for what is committed.
-use Rattle.std.specs.Prelude.{◌≡◌, ◌≤◌, ◌&&◌, ◌++◌, ℕ, Bool, true, false, List, [], ◌∷◌, length, Option, Some, None, nat_le, if◌then◌else◌, refl}
-use Rattle.std.specs.List.{list_all}
-use Rattle.std.proofs.Common.{◌∙◌, ap, sym, subst, subst₂, arith}
-use Rattle.std.proofs.lemmas.Bool.{and_parts, and_from, le-leb, true≢false}
+use Rattle.std.specs.Prelude.{◌≡◌, ◌≤◌, ◌&&◌, ◌++◌, ℕ, Bool, true, false, List, [], ◌∷◌, All, Option, Some, None, unwrap_or, nat_lt, if◌then◌else◌, refl}
+use Rattle.std.proofs.Common.{◌∙◌, ap, sym, subst, ap₂, ⊎_elim, arith}
+use Rattle.std.proofs.lemmas.Bool.{and_from, ltb-false, true≢false}
 use Rattle.std.proofs.lemmas.Option.{none-some, same_Some}
-use Rattle.aw_cell.specs.Cell.{is_integer_cell}
+use Rattle.aw_schema.specs.declared.definition.Def.{Def}
+use Rattle.aw_body.specs.declared.change.Change.{Change}
+use Rattle.aw_body.specs.KeptBodies.{bodies_of}
 use Rattle.aw_codec.specs.declared.record.Decoded.{Decoded}
-use Rattle.aw_codec.specs.declared.record.Decoded.TheVariants.{Definitions}
-use Rattle.aw_codec.specs.Records.{are_distinct, AreDefinable}
-use Rattle.mv_core.specs.declared.entry.Change.{Change}
+use Rattle.aw_codec.specs.declared.record.Decoded.TheVariants as stored
+use Rattle.aw_codec.specs.Records.{IsChange}
 use Rattle.mv_core.specs.declared.entry.Entry.{Entry}
 use Rattle.mv_core.specs.declared.entry.Entry.TheVariants as entry
 use Rattle.mv_core.specs.declared.entry.Reply.{Reply}
-use Rattle.mv_core.specs.declared.entry.Reply.TheVariants.{Acquired, Committed, Stranger, Worn}
-use Rattle.mv_core.specs.Integers.{integers}
-use Rattle.mv_core.specs.SharedStep.{first_stranger, first_worn, reply_of, writes, workspace_after}
-use Rattle.mv_core.specs.StandingLaws.{length-standing}
-use Rattle.mv_core.specs.Workspace.{Workspace, standing}
+use Rattle.mv_core.specs.declared.entry.Reply.TheVariants.{Acquired, Committed, Released, Detached}
+use Rattle.mv_core.specs.SharedStep.{shared_step, writes, workspace_after}
+use Rattle.mv_core.specs.Workspace.{Workspace, Table, table_of}
 use Rattle.aw_store.specs.Images.{AreRecords}
-use Rattle.aw_store.specs.Replay.{can_replay, names_of, commits_of, commit_record, is_commit_among}
-use Rattle.aw_store.specs.Stores.{record_of}
+use Rattle.aw_store.specs.Replay.{are_replayed, are_accepted_after, can_replay, definitions_of, commits_of, stood_by}
+use Rattle.aw_store.specs.Stores.{StandFor, record_of}
+use Rattle.aw_store.proofs.callers.Commits.{can-write}
+use Rattle.aw_store.proofs.callers.Following.{definitions_of-commit}
+use Rattle.aw_store.proofs.callers.Spellings.{AreRecords-append}
+use Rattle.mv_view.specs.Rules.{changes}
 use Rattle.ses_step.specs.declared.session.Known.{Known as Session}
 use Rattle.script_world.specs.Outcomes.{Outcome}
 use Rattle.script_world.proofs.callers.DiskFits.{Recorded}
-use Rattle.script_meaning.specs.Values.{in_range}
-use Rattle.script_meaning.specs.Fit.{ViewsFit}
-use Rattle.script_meaning.specs.Language.{store_writing, history_machine}
-use Rattle.script_meaning.proofs.Recording.{commits_of-push, names_of-push, can_replay-push, AreRecords-push, IsRecord-granted, is_commit_among-granted, staged-in_range}
-use Rattle.script_meaning.proofs.Begins.{AskedOf}
+use Rattle.script_meaning.specs.Fit.{AreDefinable}
+use Rattle.script_meaning.specs.Language.{bytes_of, kept_step, store_writing, history_machine}
+use Rattle.script_meaning.proofs.Begins.{AskedOf, AsksCommit, acquiring}
+use Rattle.script_meaning.proofs.CutOff.{cut_off-cases, large-unwritten}
+use Rattle.script_meaning.proofs.Defining.{definable-drafted}
 use Rattle.script_meaning.proofs.Keeping.{Sound, Fits, Spoken, asked_so, Defined}
+use Rattle.script_meaning.proofs.Recording.{are_changes}
 
-pub record Match (records : List Decoded) (definitions : List (List ℕ)) (history : List (List Change)) : Type 0 where
-  pub names : names_of records ≡ Some definitions
+pub record Match (records : List Decoded) (definitions : List Def) (history : List (List Change)) : Type 0 where
+  pub definitions_are : definitions_of records ≡ Some definitions
   pub commits : commits_of records ≡ history
   pub replayable : can_replay records ≡ true
   pub spellings : AreRecords records
 
 -- the definitions alone, as a record
-pub definitions_match : (definitions : List (List ℕ)) → AreDefinable definitions → Match (Definitions definitions ∷ []) definitions []
+pub definitions_match : (definitions : List Def) → AreDefinable definitions → Match (stored.Definitions definitions ∷ []) definitions []
 definitions_match definitions definable = record {
-  names = refl;
+  definitions_are = refl;
   commits = refl;
-  replayable = and_from (nat_le (length definitions) 4096 && are_distinct definitions) true (and_from (nat_le (length definitions) 4096) (are_distinct definitions) (le-leb (length definitions) 4096 definable.few) definable.distinct) refl;
-  spellings = ((omega (arith, definable.few), definable.named), tt);
+  replayable = and_from (are_replayed definitions) (are_accepted_after [] definitions && true) definable.replayed (and_from (are_accepted_after [] definitions) true definable.accepted refl);
+  spellings = (definable.stored, tt);
 }
 
 -- an entry that writes is a commit with changes, and it is granted
@@ -50,20 +53,17 @@ pub record Grants (asked : Entry) (reply : Reply) : Type 0 where
   pub who : ℕ
   pub change : Change
   pub changes : List Change
-  pub entry_is : asked ≡ entry.Commit who (change ∷ changes)
+  pub leave : List ℕ
+  pub entry_is : asked ≡ entry.Commit who (change ∷ changes) leave
   pub reply_is : reply ≡ Committed
 
 pub writing-grants : (asked : Entry) (reply : Reply) → writes asked reply ≡ true → Grants asked reply
-writing-grants (entry.Commit who (c ∷ changes)) Committed writing =
-    record { who = who; change = c; changes = changes; entry_is = refl; reply_is = refl }
+writing-grants (entry.Commit who (c ∷ changes) leave) Committed writing =
+    record { who = who; change = c; changes = changes; leave = leave; entry_is = refl; reply_is = refl }
 writing-grants _ _ writing = absurd (true≢false (sym writing))
 
-abbrev pub Stands : List Decoded → List (List ℕ) → Workspace Change → Type 0
+abbrev pub Stands : List Decoded → List Def → Workspace → Type 0
 Stands records d shared = Match records d shared.history
-
-no_stranger : (stranger worn : Option ℕ) → elim stranger [ Some object ↦ Stranger object | None ↦ elim worn [ Some object ↦ Worn object | None ↦ Committed ] ] ≡ Committed → stranger ≡ None
-no_stranger None worn committed = refl
-no_stranger (Some object) worn committed = cc
 
 -- a record is made where an entry writes
 some-writes : (writing : Bool) (made r : Decoded) → (if writing then Some made else None) ≡ Some r → (writing ≡ true) × (made ≡ r)
@@ -74,42 +74,96 @@ none-writes : (writing : Bool) (made : Decoded) → (if writing then Some made e
 none-writes true made is = absurd (none-some made (sym is))
 none-writes false made is = refl
 
-history-unwritten : (w : Workspace Change) (asked : Entry) (reply : Reply) → writes asked reply ≡ false → (workspace_after w asked reply).history ≡ w.history
-history-unwritten w (entry.Acquire who object number) Acquired not_writing = refl
-history-unwritten w (entry.Commit who []) Committed not_writing = refl
-history-unwritten w (entry.Commit who (c ∷ changes)) Committed not_writing = absurd (true≢false not_writing)
+history-unwritten : (w : Workspace) (asked : Entry) (reply : Reply) → writes asked reply ≡ false → (workspace_after w asked reply).history ≡ w.history
+history-unwritten w (entry.Acquire who keep fresh same) (Acquired latest) not_writing = refl
+history-unwritten w (entry.Commit who [] leave) Committed not_writing = refl
+history-unwritten w (entry.Commit who (c ∷ changes) leave) Committed not_writing = absurd (true≢false not_writing)
+history-unwritten w (entry.Release who listed) Released not_writing = refl
+history-unwritten w (entry.Detach who) Detached not_writing = refl
 history-unwritten w _ _ not_writing = refl
 
-module _ (those : List Decoded) (d : List (List ℕ)) (shared : Workspace Change) (count who : ℕ) (s : Session) (sound : Sound d shared count) (fits : Fits d shared who s) (match : Stands those d shared) where
-  granted : (by : ℕ) (change : Change) (changes : List Change) → AskedOf s (entry.Commit by (change ∷ changes)) → reply_of (standing integers shared) (entry.Commit by (change ∷ changes)) ≡ Committed → Match (those ++ commit_record (change ∷ changes) ∷ []) d (shared.history ++ (change ∷ changes) ∷ [])
-  granted by change changes (views, own, attached, made) is =
-      let all = change ∷ changes in
-      let last = commit_record all in
-      let known = no_stranger (first_stranger integers (standing integers shared) by 0 all) (first_worn integers (standing integers shared) all) is in
-      let views_fit : ViewsFit shared who views = fits.session.views views attached in
-      let in_ranges : list_all (λ c. in_range c.cell) all ≡ true = ap (λ those. list_all (λ (c : Change). in_range c.cell) those) made ∙ staged-in_range views (λ k view is. (and_parts (is_integer_cell view.staged) (in_range view.staged) (views_fit.each k view is).values.0).1) in
-      let as_many : length (standing integers shared) ≡ length d = length-standing integers shared ∙ sound.objects in
-      let few : length (standing integers shared) ≤ 4096 = omega (arith, as_many, sound.definable.few) in
-      let among = ap (λ n. is_commit_among n last) (sym as_many) ∙ is_commit_among-granted (standing integers shared) by few all known in_ranges in
+commits_of-push : (records : List Decoded) (commit : List Change) → commits_of (records ++ stored.Commit commit ∷ []) ≡ commits_of records ++ commit ∷ []
+commits_of-push [] commit = refl
+commits_of-push (stored.Definitions definitions ∷ records) commit = commits_of-push records commit
+commits_of-push (stored.Commit others ∷ records) commit = ap (λ (rest : List (List Change)). others ∷ rest) (commits_of-push records commit)
+
+-- the changes of a commit that a session asks are those of its view
+asked-commit : (s : Session) (who : ℕ) (commit : List Change) (leave : List ℕ) → AskedOf s (entry.Commit who commit leave) → (P : List Change → Type 0) → ((it : AsksCommit s (entry.Commit who commit leave)) → P (changes it.view)) → P commit
+asked-commit s who commit leave known P holds =
+    ⊎_elim (λ it. never-attach s.who it.is) (λ later. ⊎_elim (λ it. never-acquire s.who it.object it.sees.found.number it.is) (λ it. subst P (it.made ∙ same s.who (it.change ∷ it.changes) [] it.is) (holds it)) later) known
+  where
+    same : (by : ℕ) (others : List Change) (those : List ℕ) → entry.Commit who commit leave ≡ entry.Commit by others those → others ≡ commit
+    same by others those is = cc
+
+    never-attach : (by : ℕ) → entry.Commit who commit leave ≡ entry.Attach by → P commit
+    never-attach by is = cc
+
+    never-acquire : (by object number : ℕ) → entry.Commit who commit leave ≡ acquiring by object number → P commit
+    never-acquire by object number is = cc
+
+module _ (those : List Decoded) (d : List Def) (shared : Workspace) (count who : ℕ) (s : Session) (sound : Sound d shared count) (fits : Fits d shared who s) (match : Stands those d shared) where
+  definable : AreDefinable shared.definitions
+  definable = subst AreDefinable (sym sound.definitions_are) sound.definable
+
+  -- the store's records stand for the objects as they stand
+  abbrev table : Table
+  table = table_of (bodies_of shared.definitions) shared
+
+  same_table : table ≡ stood_by those shared.owners
+  same_table =
+      ap₂ (λ (definitions : List Def) (history : List (List Change)). let w : Workspace = record { definitions = definitions; history = history; owners = shared.owners } in table_of (bodies_of definitions) w) (sound.definitions_are ∙ sym (ap (λ (found : Option (List Def)). unwrap_or found []) match.definitions_are)) (sym match.commits)
+
+  stand : StandFor those (Some d) table
+  stand = record { replayable = match.replayable; definitions_are = sym match.definitions_are; owners = shared.owners; table_is = same_table }
+
+  stored_commit : (commit : List Change) (by : ℕ) (leave : List ℕ) → AskedOf s (entry.Commit by commit leave) → writes (entry.Commit by commit leave) (shared_step (bodies_of shared.definitions) shared (entry.Commit by commit leave)).0 ≡ true → bytes_of (stored.Commit commit) ≤ 67108864 → Match (those ++ stored.Commit commit ∷ []) d (shared.history ++ commit ∷ [])
+  stored_commit commit by leave known granted short =
+      let can = can-write those (Some d) table stand by commit leave granted in
+      let all : All IsChange commit = asked-commit s by commit leave known (λ made. bytes_of (stored.Commit made) ≤ 67108864 → All IsChange made) (λ it few. are_changes shared who it.view (fits.session.view it.view it.attached) definable few) short in
       record {
-        names = names_of-push those last d match.names;
-        commits = commits_of-push those all ∙ ap (λ history. history ++ all ∷ []) match.commits;
-        replayable = can_replay-push those last d match.names among match.replayable;
-        spellings = AreRecords-push those last match.spellings (IsRecord-granted (standing integers shared) by few change changes known in_ranges);
+        definitions_are = definitions_of-commit those commit ∙ match.definitions_are;
+        commits = commits_of-push those commit ∙ ap (λ (history : List (List Change)). history ++ commit ∷ []) match.commits;
+        replayable = can.replayable;
+        spellings = AreRecords-append those (stored.Commit commit) match.spellings (record {
+          spelling = (can.some, omega (arith, can.committable.few), can.committable.rising, all);
+          short = short;
+        });
       }
 
-  written : (asked : Entry) → AskedOf s asked → (reply : Reply) → reply_of (standing integers shared) asked ≡ reply → writes asked reply ≡ true → Match (those ++ record_of asked ∷ []) d (workspace_after shared asked reply).history
-  written asked own reply is writing =
-      let grants = writing-grants asked reply writing in
-      let P : Entry → Reply → Type 0 = λ asked reply. AskedOf s asked → reply_of (standing integers shared) asked ≡ reply → Match (those ++ record_of asked ∷ []) d (workspace_after shared asked reply).history in
-      subst₂ P (sym grants.entry_is) (sym grants.reply_is) (λ own is. granted grants.who grants.change grants.changes own is) own is
+  granted_match : (asked : Entry) → AskedOf s asked → writes asked (shared_step (bodies_of shared.definitions) shared asked).0 ≡ true → bytes_of (record_of asked) ≤ 67108864 → Match (those ++ record_of asked ∷ []) d (shared_step (bodies_of shared.definitions) shared asked).1.history
+  granted_match asked known granted short =
+      let step : Entry → Reply = λ asked. (shared_step (bodies_of shared.definitions) shared asked).0 in
+      let grants = writing-grants asked (step asked) granted in
+      let commit = grants.change ∷ grants.changes in
+      let P : Entry → Type 0 = λ asked. AskedOf s asked → writes asked (step asked) ≡ true → bytes_of (record_of asked) ≤ 67108864 → Match (those ++ record_of asked ∷ []) d (workspace_after shared asked Committed).history in
+      subst (λ (reply : Reply). Match (those ++ record_of asked ∷ []) d (workspace_after shared asked reply).history) (sym grants.reply_is)
+      (subst P (sym grants.entry_is) (λ known granted short. stored_commit commit grants.who grants.leave known granted short) known granted short)
+
+  abbrev Written : Entry → Reply × Workspace → Type 0
+  Written asked r = writes asked r.0 ≡ true → Match (those ++ record_of asked ∷ []) d r.1.history
+
+  abbrev Passed : Entry → Reply × Workspace → Type 0
+  Passed asked r = writes asked r.0 ≡ false → Match those d r.1.history
+
+  written : (asked : Entry) → AskedOf s asked → Written asked (kept_step shared asked)
+  written asked known =
+      let r = shared_step (bodies_of shared.definitions) shared asked in
+      cut_off-cases shared asked r (Written asked)
+      (λ bytes granted long writing. absurd (true≢false (sym writing ∙ large-unwritten asked bytes)))
+      (λ uncut writing. granted_match asked known writing (ltb-false 67108864 (bytes_of (record_of asked)) (sym (ap (λ (b : Bool). b && nat_lt 67108864 (bytes_of (record_of asked))) writing) ∙ uncut)))
+
+  passed : (asked : Entry) → Passed asked (kept_step shared asked)
+  passed asked =
+      let r = shared_step (bodies_of shared.definitions) shared asked in
+      cut_off-cases shared asked r (Passed asked) (λ bytes granted long unwritten. match)
+      (λ uncut unwritten. subst (λ (history : List (List Change)). Match those d history) (sym (history-unwritten shared asked r.0 unwritten)) match)
 
 pub commits_recorded : (next : ℕ → Outcome) (records : List Decoded) → Recorded store_writing history_machine next Spoken (Defined records) Sound Fits records Stands
 commits_recorded next records = record {
-  opens = λ d it. subst (λ (before : List Decoded). Match (before ++ store_writing.of_definitions d ∷ []) d []) (sym it.1) (definitions_match d it.0);
+  opens = λ d it. subst (λ (before : List Decoded). Match (before ++ store_writing.of_definitions d ∷ []) d []) (sym it.1) (definitions_match d (definable-drafted d it.0));
   writes = λ those d shared count who s statement it waiting r spoken few sound fits asks is match.
-      let found = some-writes (writes it (history_machine.step shared it).0) (record_of it) r is in
-      subst (λ (last : Decoded). Match (those ++ last ∷ []) d (history_machine.step shared it).1.history) found.1 (written those d shared count who s sound fits match it (asked_so d s statement it waiting spoken asks).1 (reply_of (standing integers shared) it) refl found.0);
+      let found = some-writes (writes it (kept_step shared it).0) (record_of it) r is in
+      subst (λ (last : Decoded). Match (those ++ last ∷ []) d (kept_step shared it).1.history) found.1 (written those d shared count who s sound fits match it (asked_so d s statement it waiting asks).1 found.0);
   passes = λ those d shared count who s statement it waiting spoken few sound fits asks is match.
-      subst (λ (history : List (List Change)). Match those d history) (sym (history-unwritten shared it (reply_of (standing integers shared) it) (none-writes (writes it (history_machine.step shared it).0) (record_of it) is))) match;
+      passed those d shared count who s sound fits match it (none-writes (writes it (kept_step shared it).0) (record_of it) is);
 }

@@ -1,16 +1,19 @@
--- The lines that a session reads, as a meaning: INTEGER variables, each defined by one line, and six commands.
-use Rattle.std.specs.Prelude.{◌&&◌, ℕ, Bool, true, false, List, [], ◌∷◌, ◌++◌, length, nat_lt, Option, Some, None, is_none, Result, Ok, Err, if◌then◌else◌}
-use Rattle.aw_cell.specs.declared.cell.Cell.{Cell}
+-- The lines that a session reads, as a meaning: INTEGER variables without dimensions, each defined by one line, and six
+-- commands. What is kept may be of every kind, since a disk may have it.
+use Rattle.std.specs.Prelude.{◌&&◌, ℕ, Bool, true, false, List, [], ◌∷◌, ◌++◌, length, min, nat_lt, Option, Some, None, is_none, Result, Ok, Err, if◌then◌else◌}
+use Rattle.aw_cell.specs.declared.cell.Kind.TheVariants.{Int as Integer}
+use Rattle.aw_schema.specs.declared.definition.Def.{Def}
+use Rattle.aw_schema.specs.declared.definition.DefKind.TheVariants.{Variable}
+use Rattle.aw_schema.specs.Checking as catalogue
+use Rattle.aw_body.specs.KeptBodies.{bodies_of}
 use Rattle.aw_codec.specs.declared.record.Decoded.{Decoded}
 use Rattle.aw_codec.specs.declared.record.Decoded.TheVariants as stored
-use Rattle.mv_core.specs.declared.entry.Change.{Change}
+use Rattle.aw_codec.specs.Records.{spelled}
 use Rattle.mv_core.specs.declared.entry.Entry.{Entry}
 use Rattle.mv_core.specs.declared.entry.Reply.{Reply}
-use Rattle.mv_core.specs.declared.entry.Reply.TheVariants.{Fault}
-use Rattle.mv_core.specs.declared.object.Object.{Object}
-use Rattle.mv_core.specs.Integers.{integers}
-use Rattle.mv_core.specs.SharedStep.{writes, shared_step, objects_step}
-use Rattle.mv_core.specs.Workspace.{Workspace, opened, standing}
+use Rattle.mv_core.specs.declared.entry.Reply.TheVariants.{TooLarge, Fault}
+use Rattle.mv_core.specs.SharedStep.{writes, shared_step, table_step}
+use Rattle.mv_core.specs.Workspace.{Workspace, Table, opened, table_of}
 use Rattle.aw_store.specs.Stores.{record_of}
 use Rattle.ses_report.specs.declared.refusal.Refusal.{Refusal}
 use Rattle.ses_report.specs.Refusals.{no_form}
@@ -22,7 +25,6 @@ use Rattle.ses_step.specs.declared.answer.Answer.TheVariants.{Refused}
 use Rattle.ses_step.specs.declared.session.Begun.{Begun}
 use Rattle.ses_step.specs.declared.session.Begun.TheVariants.{Said, Ask}
 use Rattle.ses_step.specs.declared.session.Known.{Known as Session}
-use Rattle.ses_step.specs.Words.{place_of}
 use Rattle.ses_step.specs.Lines.{line_form}
 use Rattle.ses_step.specs.Answers.{answer_of}
 use Rattle.ses_step.specs.Sessions.{new_session, begun, finished}
@@ -39,21 +41,25 @@ form_of line.Malformed = world.malformed no_form
 form_of (line.Definition name) = world.ends
 form_of (line.Session name command) = world.under name command
 
--- a name can be defined once, and 4,096 names in all
-abbrev pub can_define : List (List ℕ) → List ℕ → Bool
-can_define definitions name = nat_lt (length definitions) 4096 && is_none (place_of definitions name)
+-- what a line defines: an INTEGER variable without dimensions
+abbrev pub integer : List ℕ → Def
+integer name = record { name = name; kind = Variable Integer [] }
 
-abbrev pub defined_by : List (List ℕ) → Line → Result (List (List ℕ)) Refusal
-defined_by definitions (line.Definition name) = if can_define definitions name then Ok (definitions ++ name ∷ []) else Err no_form
+-- a catalogue of these definitions accepts it
+abbrev pub can_define : List Def → List ℕ → Bool
+can_define definitions name = is_none (catalogue.refusal definitions (integer name))
+
+abbrev pub defined_by : List Def → Line → Result (List Def) Refusal
+defined_by definitions (line.Definition name) = if can_define definitions name then Ok (definitions ++ integer name ∷ []) else Err no_form
 defined_by definitions _ = Err no_form
 
-abbrev pub define : List (List ℕ) → List (List ℕ) → Result (List (List ℕ)) Refusal
+abbrev pub define : List Def → List (List ℕ) → Result (List Def) Refusal
 define definitions [] = Err no_form
 define definitions (text ∷ texts) = defined_by definitions (line_form text)
 
-abbrev pub is_any : List (List ℕ) → Bool
+abbrev pub is_any : List Def → Bool
 is_any [] = false
-is_any (name ∷ names) = true
+is_any (def ∷ definitions) = true
 
 -- ---- a command
 
@@ -66,18 +72,18 @@ begun_of (Said answer, session) = world.said (answer_of answer) session
 begun_of (Ask entry, session) = world.ask entry (session, entry)
 
 -- what is no command of its own is refused
-abbrev pub begin : List (List ℕ) → Session → Option Command → world.Begun Entry Session Waiting
+abbrev pub begin : List Def → Session → Option Command → world.Begun Entry Session Waiting
 begin definitions s None = world.said (answer_of (Refused no_form)) s
 begin definitions s (Some command) = begun_of (begun definitions s command)
 
-abbrev pub finish : List (List ℕ) → List (List ℕ) → Waiting → Reply → report.Answer × Session
+abbrev pub finish : List Def → List (List ℕ) → Waiting → Reply → report.Answer × Session
 finish definitions names waiting reply =
     let f = finished definitions names waiting.0 waiting.1 reply in
     (answer_of f.0, f.1)
 
 abbrev pub language : world.Meaning
 language = record {
-  Definitions = List (List ℕ);
+  Definitions = List Def;
   Session = Session;
   Waiting = Waiting;
   Statement = Option Command;
@@ -105,19 +111,40 @@ store_writing = record {
   fault = Fault;
 }
 
--- the commits and the owners, from which the generations follow
-abbrev pub history_machine : Machine language (Workspace Change)
-history_machine = record { opens = λ definitions. opened (length definitions); step = shared_step }
+-- how many bytes a record has
+abbrev pub bytes_of : Decoded → ℕ
+bytes_of attempted = length (spelled attempted)
+
+-- the commit is granted, but its record would have more than 67,108,864 bytes
+abbrev pub is_cut_off : Entry → Reply → Bool
+is_cut_off entry reply = writes entry reply && nat_lt 67108864 (bytes_of (record_of entry))
+
+-- such a commit leaves the state as it was, and is answered how many bytes its record would have
+abbrev pub cut_off : {S : Type 0} → S → Entry → Reply × S → Reply × S
+cut_off state entry r =
+    if is_cut_off entry r.0
+    then (TooLarge (min (bytes_of (record_of entry)) 18446744073709551615), state)
+    else r
+
+-- the definitions, the commits and the owners, from which the generations follow
+abbrev pub kept_step : Workspace → Entry → Reply × Workspace
+kept_step w entry = cut_off w entry (shared_step (bodies_of w.definitions) w entry)
+
+abbrev pub history_machine : Machine language Workspace
+history_machine = record { opens = opened; step = kept_step }
 
 -- each object as it stands
-abbrev pub objects_machine : Machine language (List (Object Cell))
-objects_machine = record { opens = λ definitions. standing integers (opened (length definitions)); step = objects_step }
+abbrev pub standing_step : Table → Entry → Reply × Table
+standing_step table entry = cut_off table entry (table_step table entry)
+
+abbrev pub objects_machine : Machine language Table
+objects_machine = record { opens = λ definitions. table_of (bodies_of definitions) (opened definitions); step = standing_step }
 
 abbrev pub HistoryDisk : Type 0
-HistoryDisk = OnDisk Decoded (Workspace Change)
+HistoryDisk = OnDisk Decoded Workspace
 
 abbrev pub ObjectsDisk : Type 0
-ObjectsDisk = OnDisk Decoded (List (Object Cell))
+ObjectsDisk = OnDisk Decoded Table
 
 abbrev pub HistoryWorld : Type 0
 HistoryWorld = World language HistoryDisk

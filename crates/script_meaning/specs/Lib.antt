@@ -1,4 +1,5 @@
 pub mod Language
+pub mod Generations
 pub mod Turns
 pub mod Transcript
 pub mod TakingTurns
@@ -17,4 +18,3 @@ pub mod CrashRuns
 pub mod Acting
 pub mod Faring
 pub mod StoreRuns
-pub mod Values

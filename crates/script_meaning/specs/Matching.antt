@@ -2,10 +2,10 @@
 -- when the disk was opened, and then of the attempts that were done.
 use Rattle.std.specs.Prelude.{◌≡◌, ◌++◌, ℕ, List, [], ◌∷◌, None, Some, unwrap_or, IsTrue}
 use Rattle.std.specs.Option.{ForSome}
+use Rattle.aw_schema.specs.declared.definition.Def.{Def}
 use Rattle.aw_codec.specs.declared.record.Decoded.{Decoded}
-use Rattle.mv_core.specs.declared.entry.Change.{Change}
 use Rattle.mv_core.specs.Workspace.{Workspace}
-use Rattle.aw_store.specs.Replay.{can_replay, names_of, commits_of, workspace_of}
+use Rattle.aw_store.specs.Replay.{can_replay, definitions_of, commits_of, workspace_of}
 use Rattle.aw_store.specs.Images.{AreRecords}
 use Rattle.script_world.specs.Worlds.{Event, script_ends}
 use Rattle.script_world.specs.Outcomes.{Outcome}
@@ -19,8 +19,8 @@ pub record CanBeOpened (records : List Decoded) : Type 0 where
   pub replayable : IsTrue (can_replay records)
 
 -- these records stand for this shared state over these definitions
-pub record StandFor (records : List Decoded) (definitions : List (List ℕ)) (state : Workspace Change) : Type 0 where
-  pub names : names_of records ≡ Some definitions
+pub record StandFor (records : List Decoded) (definitions : List Def) (state : Workspace) : Type 0 where
+  pub definitions_are : definitions_of records ≡ Some definitions
   pub commits : commits_of records ≡ state.history
   pub workspace : workspace_of records state.owners ≡ state
 
@@ -34,7 +34,7 @@ pub record RecordsMatch (names : List (List ℕ)) (records : List Decoded) (comi
 abbrev pub EndMatches : List (List ℕ) → List Decoded → List Outcome → List Event → Type 0
 EndMatches names records coming events =
     let all = events ++ script_ends ∷ [] in
-    unwrap_or (names_of (settled_records records (attempts names records coming all))) [] ≡ (world_at names records coming all).definitions
+    unwrap_or (definitions_of (settled_records records (attempts names records coming all))) [] ≡ (world_at names records coming all).definitions
 
 -- the commits and the owners are the same
 abbrev pub SameState : HistoryDisk → HistoryDisk → Type 0

@@ -1,6 +1,7 @@
 -- What a program over a store has done, told over the commits and the owners.
 use Rattle.std.specs.Prelude.{◌≡◌, ℕ, Bool, List, [], Option, unwrap_or}
 use Rattle.std.specs.Option.{option_map}
+use Rattle.aw_schema.specs.declared.definition.Def.{Def}
 use Rattle.aw_codec.specs.declared.record.Decoded.{Decoded}
 use Rattle.aw_store.specs.Stores.{StoreState}
 use Rattle.script_world.specs.Worlds.{World, Event, first_sessions, text_of, any_refused}
@@ -11,14 +12,14 @@ use Rattle.script_meaning.specs.Transcript.{opening, opening_objects, attempts}
 
 -- the state of the machine for which a store stands, in a run that wrote this record of definitions and made these attempts
 abbrev pub store_disk : {D : Type 0} → Option Decoded → List (Attempt Decoded) → StoreState D → ObjectsDisk
-store_disk opened tried store = record { state = store.objects; opened = opened; tried = tried }
+store_disk opened tried store = record { state = store.table; opened = opened; tried = tried }
 
 -- the world in which a store is opened: it is open where its records have definitions
-abbrev pub store_opening : {D : Type 0} → List (List ℕ) → Option (List (List ℕ)) → StoreState D → World language (StoreState D)
+abbrev pub store_opening : {D : Type 0} → List (List ℕ) → Option (List Def) → StoreState D → World language (StoreState D)
 store_opening {D} names defined store = record {
   definitions = unwrap_or defined [];
   open_lines = [];
-  shared = option_map (λ (those : List (List ℕ)). store) defined;
+  shared = option_map (λ (those : List Def). store) defined;
   names = names;
   sessions = first_sessions language 0 names;
 }

@@ -1,9 +1,7 @@
 -- The transcript of a script on a disk: each event's answer, in order, each in the world that the events before it left.
 use Rattle.std.specs.Prelude.{ℕ, Bool, List, []}
 use Rattle.aw_codec.specs.declared.record.Decoded.{Decoded}
-use Rattle.mv_core.specs.Integers.{integers}
-use Rattle.mv_core.specs.Workspace.{standing}
-use Rattle.aw_store.specs.Replay.{names_of, workspace_of}
+use Rattle.aw_store.specs.Replay.{definitions_of, workspace_of, stood_by}
 use Rattle.script_world.specs.Worlds.{Event, text_of, any_refused, world_after, ended_events, script_events}
 use Rattle.script_world.specs.Outcomes as disk
 use Rattle.script_world.specs.Outcomes.{Outcome, Attempt, attempts_of}
@@ -12,11 +10,11 @@ use Rattle.script_meaning.specs.Language.{HistoryWorld, ObjectsWorld, by_history
 -- The world in which a disk with these records is opened: without a record of definitions nothing is defined and nothing is
 -- open. These names of sessions are known before.
 abbrev pub opening : List (List ℕ) → List Decoded → HistoryWorld
-opening names records = disk.opening names (names_of records) (workspace_of records [])
+opening names records = disk.opening names (definitions_of records) (workspace_of records [])
 
 -- the same over the objects as these commits leave them
 abbrev pub opening_objects : List (List ℕ) → List Decoded → ObjectsWorld
-opening_objects names records = disk.opening names (names_of records) (standing integers (workspace_of records []))
+opening_objects names records = disk.opening names (definitions_of records) (stood_by records [])
 
 -- what the whole script is answered, and whether a line of it is refused
 abbrev pub transcript : List (List ℕ) → List Decoded → List Outcome → List ℕ → List ℕ

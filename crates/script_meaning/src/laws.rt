@@ -2,8 +2,9 @@
 //! replayed, whichever names of sessions are known before, and whichever of its commits meet a fault
 //! of the disk.
 
-ghost use Rattle.std.specs.Prelude.{◌≤◌, ◌++◌, ℕ, List, length};
-ghost use Rattle.aw_cell.specs.declared.cell.Cell.{Cell};
+ghost use Rattle.std.specs.Prelude.{◌≤◌, ◌++◌, ℕ, List, Option, length};
+ghost use Rattle.aw_schema.specs.declared.definition.Def.{Def};
+ghost use Rattle.aw_body.specs.declared.body.Body.{Body};
 ghost use Rattle.aw_codec.specs.declared.record.Decoded.{Decoded};
 ghost use Rattle.mv_core.specs.declared.object.Object.{Object};
 ghost use Rattle.script_world.specs.Faults.{SeesFaults, FaultsAreSeen};
@@ -18,7 +19,7 @@ ghost use Rattle.script_meaning.specs.AllDone.{AreDone, IsAsWithNone};
 ghost use Rattle.script_meaning.specs.Answering.{CommandsAreAnswered, AssignmentsAreDone, IsOneLine};
 ghost use Rattle.script_meaning.specs.CommitFaults.{is_fault, fault_answer};
 ghost use Rattle.script_meaning.specs.CrashRuns.{LeavesARunOf, LeavesWhatOpens};
-ghost use Rattle.script_meaning.specs.Dump.{DumpTells};
+ghost use Rattle.script_meaning.specs.Dump.{DumpTells, RecordsTell};
 ghost use Rattle.script_meaning.specs.Extending.{CommitsExtend, GrantsHaveLatest};
 ghost use Rattle.script_meaning.specs.Fit.{WorldFits};
 ghost use Rattle.script_meaning.specs.Language.{HistoryWorld, store_writing, history_machine, by_history};
@@ -28,18 +29,19 @@ ghost use Rattle.script_meaning.specs.SameRecords.{SameRecords};
 ghost use Rattle.script_meaning.specs.TakingTurns.{LinesTakeTurns};
 ghost use Rattle.script_meaning.specs.Transcript.{opening, world_at};
 
-/// After any lines of a script the views of each attached session fit what is committed and owned:
-/// the session has one committed generation of each object, has the latest one of an object that
-/// it owns, and has staged nothing of an object that it doesn't own. Only attached sessions own
-/// objects. See docs/SHARING.md, 'What is proved'.
+/// After any lines of a script the view of each attached session fits what is committed and owned:
+/// the session has one committed generation of each kept object, has the latest one of an object
+/// that it owns, and has staged nothing of an object that it doesn't own; and a record can hold what
+/// it staged. Only attached sessions own objects. See docs/SHARING.md, 'What is proved'.
 pub fn views_fit()
     ensures { (names : List (List ℕ)) (records : List Decoded) (coming : List Outcome) (events : List Event) → CanBeOpened records → WorldFits (world_at names records coming events) }
 {}
 
 /// After any lines of a script, a COMMIT of an attached session that is answered `ok` makes each
-/// staged body the generation behind the one that the session had, which was the latest, and adds
-/// none to any other object. Else it is refused, with 22 where an object's numbers are used up or
-/// with 30 where the disk failed, and then changes nothing. See docs/SHARING.md, 'What is proved'.
+/// staged body that isn't the base the generation behind the one that the session had, which was the
+/// latest, and adds none to any other object. Else it is refused, with 22 where an object's numbers
+/// are used up, with 14 where its record would have more than 67,108,864 bytes, or with 30 where the
+/// disk failed, and then changes nothing. See docs/SHARING.md, 'What is proved'.
 pub fn commits_extend_the_latest()
     ensures { (names : List (List ℕ)) (records : List Decoded) (coming : List Outcome) (events : List Event) → CanBeOpened records → CommitsExtend coming (world_at names records coming events) }
 {}
@@ -51,14 +53,14 @@ pub fn grants_have_the_latest()
     ensures { (names : List (List ℕ)) (records : List Decoded) (coming : List Outcome) (events : List Event) → CanBeOpened records → GrantsHaveLatest coming (world_at names records coming events) }
 {}
 
-/// After any lines of a script, an ACQUIRE of a defined object is answered by its owner, and where
-/// it has none by whether the session has its latest generation. See docs/SHARING.md, 'What is
+/// After any lines of a script, an ACQUIRE of a kept object is answered by its owner, and where it has
+/// none by whether the session has its latest generation. See docs/SHARING.md, 'What is
 /// proved'.
 pub fn acquires_are_answered()
     ensures { (names : List (List ℕ)) (records : List Decoded) (coming : List Outcome) (events : List Event) → CanBeOpened records → AcquiresAreAnswered coming (world_at names records coming events) }
 {}
 
-/// What a session reads is its own. AW ATTACH gives it the latest generation of each object. From
+/// What a session reads is its own. AW ATTACH gives it the latest generation of each kept object. From
 /// then on it reads that, or what its own lines assigned last, and SHOW shows this. A command of its
 /// own moves what it has of an object so: it stages by UPDATE alone, has another generation by its
 /// own COMMIT alone, and gains an object by ACQUIRE alone. See docs/SHARING.md, 'What is proved'.
@@ -76,8 +78,9 @@ pub fn lines_keep_other_sessions()
 {}
 
 /// A command is refused with 1 where it names an object that isn't defined; else with 15 where its
-/// session isn't attached, or with 16 where it is an AW ATTACH of one that is. UPDATE of an attached
-/// session is answered `ok`, and after any lines of a script so is its assignment to a defined object.
+/// session isn't attached, or with 16 where it is an AW ATTACH of one that is; else with 1 where it
+/// shows or assigns another object than an INTEGER variable without dimensions. UPDATE of an attached
+/// session is answered `ok`, and after any lines of a script so is its assignment to such a variable.
 /// See docs/SHARING.md, 'What is proved'.
 pub fn commands_are_answered()
     ensures in_order { (coming : List Outcome) → CommandsAreAnswered coming }
@@ -174,12 +177,16 @@ pub fn text_fixes_outcomes()
     ensures { (names : List (List ℕ)) (records : List Decoded) (one other : List Outcome) (events : List Event) → TextFixesWorld store_writing history_machine (among one) (among other) (opening names records) events }
 {}
 
-/// What `dump` prints tells the number of each object's latest generation and its cell, also where
-/// that is NA: two dumps of the same names that are the same text are of the same numbers and cells.
-/// See docs/FORMATS.md, 'A dump'.
+/// What `dump` prints tells the number of each object's latest generation and its body, every value,
+/// slot and cell of it: two dumps of the same definitions that are the same text are of the same
+/// numbers and bodies. So it is of any fewer than 2 ^ 64 records that a workspace opens with. See
+/// docs/FORMATS.md, 'A dump'.
 pub fn dumps_tell_numbers_and_cells()
-    ensures { (names : List (List ℕ)) (one other : List (Object Cell)) → DumpTells names one other }
-{}
+    ensures objects { (definitions : List Def) (one other : List (Option (Object Body))) → DumpTells definitions one other }
+    ensures records { (one other : List Decoded) → RecordsTell one other }
+{
+    aw_cell::texts_tell_apart();
+}
 
 /// The lines of a script, each with the CR that was taken from it and with its LF, give back the
 /// script, and no LF stands within a line. See docs/LANGUAGE.md, 'Scripts'.

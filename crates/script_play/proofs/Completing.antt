@@ -8,14 +8,14 @@ use Rattle.script_disk.specs.Formatted.{AreFormatted}
 use Rattle.script_disk.specs.Opened.{IsUnopened, status_of as unopened_status}
 use Rattle.script_disk.specs.declared.opening.Unopened.{Unopened}
 use Rattle.script_disk.specs.declared.opening.Unopened.TheVariants as unopened
-use Rattle.script_disk.proofs.Completing.{not_unformatted, not_damaged}
+use Rattle.script_disk.proofs.callers.Completing.{not_unformatted, not_damaged}
 use Rattle.aw_codec.specs.declared.record.Decoded.{Decoded}
 use Rattle.aw_io.specs.Known.{Grows}
 use Rattle.script_meaning.specs.AllDone.{AreDone}
 use Rattle.script_world.specs.Outcomes.{Outcome, Attempt}
 use Rattle.script_world.specs.Faults.{has_faulted}
 use Rattle.script_meaning.specs.Transcript.{transcript}
-use Rattle.script_meaning.proofs.AllDone.{none_faulted, transcript_as_with_none}
+use Rattle.script_meaning.proofs.callers.AllDone.{none_faulted, transcript_as_with_none}
 use Rattle.script_play.specs.declared.ending.Ending.{Ending}
 use Rattle.script_play.specs.declared.ending.Ending.TheVariants.{Accepted, Refusing, SourceFault, SinkFault, DiskFault, NoMemory, TooLong}
 use Rattle.script_play.specs.Statuses.{status_of}

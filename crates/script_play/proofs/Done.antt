@@ -4,8 +4,9 @@ use Rattle.std.specs.Option.{option_map}
 use Rattle.std.proofs.Common.{◌∙◌, ap, ap₂, sym, subst, subst₂, ⊎_elim, arith, append_assoc, append-nil, take, drop, take-append-drop}
 use Rattle.aw_lists.specs.Faults.{Rose}
 use Rattle.aw_io.specs.Known.{Grows, GrowsByFront, Grows-append}
+use Rattle.aw_schema.specs.declared.definition.Def.{Def}
 use Rattle.aw_codec.specs.declared.record.Decoded.{Decoded}
-use Rattle.aw_store.specs.Replay.{names_of}
+use Rattle.aw_store.specs.Replay.{definitions_of}
 use Rattle.aw_store.specs.Stores.{StoreState}
 use Rattle.ses_report.specs.Reports as report
 use Rattle.ses_step.specs.declared.answer.Answer.{Answer}
@@ -23,7 +24,7 @@ use Rattle.script_meaning.specs.Language.{language, store_writing, objects_machi
 use Rattle.script_meaning.specs.Alike.{objects_at}
 use Rattle.script_meaning.specs.StoreRuns.{store_disk, StoreRun}
 use Rattle.script_meaning.specs.Transcript.{opening_objects}
-use Rattle.script_meaning.proofs.StoreRuns.{made-all}
+use Rattle.script_meaning.proofs.callers.StoreRuns.{made-all}
 use Rattle.script_play.specs.declared.world.StoreWorld.{StoreWorld}
 use Rattle.script_play.specs.declared.stop.Stop.{Stop}
 use Rattle.script_play.specs.declared.stop.Stop.TheVariants.{SinkFault, DiskFault, NoMemory}
@@ -83,11 +84,11 @@ module _ {D : Type 0} (faults clock : D → ℕ) (crash : D → ℕ → List ℕ
 
   done_attempts : (events : List Event) (text : List ℕ) (refused : Bool) (w : StoreWorld (StoreState D)) (d : HasDone faults clock crash records at events text refused w) → attempts_of (objects_at [] records d.coming events).shared ≡ all_attempts d.opened d.tried
   done_attempts events text refused w d =
-      ap (λ (it : ObjectsWorld). attempts_of it.shared) d.run.world ∙ made-all d.opened d.tried (open_store w.store) (λ none. d.is_made (unopened (names_of w.store.records) none))
+      ap (λ (it : ObjectsWorld). attempts_of it.shared) d.run.world ∙ made-all d.opened d.tried (open_store w.store) (λ none. d.is_made (unopened (definitions_of w.store.records) none))
     where
-      unopened : (found : Option (List (List ℕ))) → option_map (λ (names : List (List ℕ)). w.store) found ≡ None → found ≡ None
+      unopened : (found : Option (List Def)) → option_map (λ (those : List Def). w.store) found ≡ None → found ≡ None
       unopened None none = refl
-      unopened (Some names) none = cc
+      unopened (Some definitions) none = cc
 
   -- outcomes that are told later change nothing of what was answered
   later_told : (events : List Event) (text : List ℕ) (refused : Bool) (w : StoreWorld (StoreState D)) (d : HasDone faults clock crash records at events text refused w) (told : List Outcome) → SameOf (by_objects d.coming) (by_objects (d.coming ++ told)) (opening_objects [] records) events
@@ -128,7 +129,7 @@ module _ {D : Type 0} (faults clock : D → ℕ) (crash : D → ℕ → List ℕ
   -- ---- a failure to write the definitions
 
   -- nothing was attempted, and no outcome told
-  pub unattempted : (events : List Event) (text : List ℕ) (refused : Bool) (w : StoreWorld (StoreState D)) → (d : HasDone faults clock crash records at events text refused w) → names_of w.store.records ≡ None → (d.coming ≡ []) × (d.opened ≡ None) × (d.tried ≡ [])
+  pub unattempted : (events : List Event) (text : List ℕ) (refused : Bool) (w : StoreWorld (StoreState D)) → (d : HasDone faults clock crash records at events text refused w) → definitions_of w.store.records ≡ None → (d.coming ≡ []) × (d.opened ≡ None) × (d.tried ≡ [])
   unattempted events text refused w d none =
       let nothing = d.is_made none in
       (empty d.coming (sym d.run.as_many ∙ ap length nothing.1), nothing.0, nothing.1)
@@ -137,10 +138,10 @@ module _ {D : Type 0} (faults clock : D → ℕ) (crash : D → ℕ → List ℕ
       empty [] is = refl
       empty (outcome ∷ coming) is = absurd (omega (arith, is))
 
-  pub failed_so : (all events rest : List Event) (next : Event) (text : List ℕ) (refused : Bool) (old new : StoreWorld (StoreState D)) (before now : Option (List ℕ)) → all ≡ (events ++ next ∷ []) ++ rest → ClosesWith old.definitions next → HasDone faults clock crash records at events text refused old → FailsToOpen faults clock crash old new → Grows before now text → HasFailed faults clock crash records at all new.store before now
+  pub failed_so : (all events rest : List Event) (next : Event) (text : List ℕ) (refused : Bool) (old new : StoreWorld (StoreState D)) (before now : Option (List ℕ)) → all ≡ (events ++ next ∷ []) ++ rest → ClosesWith old.drafted next → HasDone faults clock crash records at events text refused old → FailsToOpen faults clock crash old new → Grows before now text → HasFailed faults clock crash records at all new.store before now
   failed_so all events rest next text refused old new before now front closes d fails grows =
       let nothing = unattempted events text refused old d fails.unopened in
-      let last : List (Attempt Decoded) = defining old.definitions faulted ∷ [] in
+      let last : List (Attempt Decoded) = defining old.drafted faulted ∷ [] in
       let made : all_attempts d.opened d.tried ≡ [] = ap₂ (λ (those : Option Decoded) (tried : List (Attempt Decoded)). all_attempts those tried) nothing.1 nothing.2 in
       record {
         events = events;

@@ -6,13 +6,11 @@ use Rattle.std.proofs.lemmas.List.{take_at}
 use Rattle.std.proofs.lemmas.Option.{none-some}
 use Rattle.std.specs.Io.KnownBytes.{IsAtEnd}
 use Rattle.aw_io.specs.Known.{Gives, Grows, Gives-nothing, Grows-nothing}
-use Rattle.aw_codec.specs.Records.{AreDefinable}
+use Rattle.aw_schema.specs.declared.definition.Def.{Def}
 use Rattle.aw_codec.specs.declared.record.Decoded.{Decoded}
-use Rattle.mv_core.specs.Integers.{integers}
-use Rattle.mv_core.specs.Workspace.{standing}
 use Rattle.aw_journal.specs.Passed.{Passed}
 use Rattle.aw_store.specs.Images.{HoldsRecords, LeftRecords}
-use Rattle.aw_store.specs.Replay.{names_of, workspace_of}
+use Rattle.aw_store.specs.Replay.{definitions_of, stood_by}
 use Rattle.aw_store.specs.Stores.{StoreState}
 use Rattle.script_world.specs.Outcomes.{Outcome, faulted, Attempt, all_attempts}
 use Rattle.script_world.specs.Laws.{Closes}
@@ -24,9 +22,9 @@ use Rattle.script_meaning.specs.Transcript.{opening, world_at, attempts}
 use Rattle.script_meaning.specs.Language.{form_of, is_any, HistoryDisk, HistoryWorld, ObjectsWorld, by_history, by_objects}
 use Rattle.script_meaning.specs.SameRecords.{SameRecords}
 use Rattle.script_meaning.specs.StoreRuns.{store_disk, IsRun}
-use Rattle.script_meaning.proofs.Faring.{fares_opened, fares_final}
-use Rattle.script_meaning.proofs.Standing.{are_alike, answered_alike}
-use Rattle.script_meaning.proofs.StoreRuns.{is_run, run_opened}
+use Rattle.script_meaning.proofs.callers.Faring.{fares_opened, fares_final}
+use Rattle.script_meaning.proofs.callers.Standing.{are_alike, answered_alike}
+use Rattle.script_meaning.proofs.callers.StoreRuns.{is_run, run_opened}
 use Rattle.script_play.specs.declared.ending.Ending.{Ending}
 use Rattle.script_play.specs.declared.ending.Ending.TheVariants.{Accepted, Refusing, SourceFault, SinkFault, DiskFault, NoMemory, TooLong}
 use Rattle.script_play.specs.declared.world.StoreWorld.{StoreWorld}
@@ -38,6 +36,7 @@ use Rattle.script_play.specs.Playing.{Play, Stands, HasDone, ClosesWith, WasCut,
 use Rattle.script_play.specs.Reading.{Streams, streams, BrokeOff, RanOver, EndedWhole, EndsRun, EndsFrom}
 use Rattle.script_play.specs.Ends.{IsFront, AreEvents, IsWhole, IsCut, IsUndefined, EndsSo, contents, WasOpened, Plays}
 use Rattle.script_play.specs.Opened.{opened_world, opened_play}
+use Rattle.script_play.proofs.Writable.{integers-none}
 use Rattle.script_play.proofs.Turning.{later-same}
 use Rattle.script_play.proofs.Done.{cut_before, rose-earlier}
 use Rattle.ses_step.specs.declared.session.Session.{Session}
@@ -58,7 +57,7 @@ unopened-as None none = refl
 unopened-as (Some disk) none = absurd (none-some (standing_disk disk) (sym none))
 
 -- an event that closes these definitions
-closes_as : (w : HistoryWorld) (definitions : List (List ℕ)) (next : Event) → w.definitions ≡ definitions → ClosesWith definitions next → Closes w next
+closes_as : (w : HistoryWorld) (definitions : List Def) (next : Event) → w.definitions ≡ definitions → ClosesWith definitions next → Closes w next
 closes_as w definitions (line text) same it = inl (ap (λ form. is_some (session_in w (form_of form))) it.is)
 closes_as w definitions block_ends same it = absurd it
 closes_as w definitions script_ends same it = inr (refl, ap is_any same ∙ it)
@@ -75,11 +74,11 @@ module _ {D : Type 0} (faults clock : D → ℕ) (crash : D → ℕ → List ℕ
 
   history-of : (events : List Event) (text : List ℕ) (refused : Bool) (w : StoreWorld (StoreState D)) (d : HasDone faults clock crash records at events text refused w) → IsRun [] records events d.coming (all_attempts d.opened d.tried) text refused
   history-of events text refused w d =
-      is_run [] records events d.coming d.opened d.tried text refused (world_of w) (λ none. d.is_made (unopened (names_of w.store.records) none)) d.run
+      is_run [] records events d.coming d.opened d.tried text refused (world_of w) (λ none. d.is_made (unopened (definitions_of w.store.records) none)) d.run
     where
-      unopened : (found : Option (List (List ℕ))) → option_map (λ (names : List (List ℕ)). w.store) found ≡ None → found ≡ None
+      unopened : (found : Option (List Def)) → option_map (λ (those : List Def). w.store) found ≡ None → found ≡ None
       unopened None none = refl
-      unopened (Some names) none = absurd (none-some w.store (sym none))
+      unopened (Some definitions) none = absurd (none-some w.store (sym none))
 
   ended-broken : (s : Streams) (store : StoreState D) → BrokeOff faults clock crash records at s store → EndedAs SourceFault s store
   ended-broken s store it =
@@ -150,8 +149,9 @@ module _ {D : Type 0} (faults clock : D → ℕ) (crash : D → ℕ → List ℕ
       let alike = are_alike [] records [] it.events in
       let run = is_run [] records it.events [] None [] it.text it.refused (world_of it.w) (λ none. (refl, refl)) it.run in
       let same : with_shared standing_disk (world_at [] records [] it.events) ≡ with_shared (store_disk None []) (world_of it.w) = sym alike.world ∙ it.run.world in
+      let defined : (world_at [] records [] it.events).definitions ≡ it.w.drafted = ap (λ (w : ObjectsWorld). w.definitions) same ∙ ap (λ (found : Option (List Def)). unwrap_or found it.w.drafted) it.unopened in
       record {
-        made = defining it.w.definitions faulted ∷ [];
+        made = defining it.w.drafted faulted ∷ [];
         undefined = record {
           size = size;
           events = it.events;
@@ -159,9 +159,9 @@ module _ {D : Type 0} (faults clock : D → ℕ) (crash : D → ℕ → List ℕ
           are = are (it.events ++ it.next ∷ []) (record { rest = it.rest; is = it.front });
           wrote = subst (Grows s.written_before s.written_now) (sym run.text_is) it.written;
           no_commits = refl;
-          unopened = unopened-as (world_at [] records [] it.events).shared (ap (λ (w : ObjectsWorld). w.shared) same ∙ ap (option_map (store_disk None [])) (ap (option_map (λ (names : List (List ℕ)). it.w.store)) it.unopened));
-          closes = closes_as (world_at [] records [] it.events) it.w.definitions it.next (ap (λ (w : ObjectsWorld). w.definitions) same) it.closes;
-          attempted = ap (λ (those : List (List ℕ)). defining those faulted ∷ []) (sym (ap (λ (w : ObjectsWorld). w.definitions) same));
+          unopened = unopened-as (world_at [] records [] it.events).shared (ap (λ (w : ObjectsWorld). w.shared) same ∙ ap (option_map (store_disk None [])) (ap (option_map (λ (those : List Def). it.w.store)) it.unopened));
+          closes = closes_as (world_at [] records [] it.events) it.w.drafted it.next defined it.closes;
+          attempted = ap (λ (those : List Def). defining those faulted ∷ []) (sym defined);
         };
         stands = it.stands;
       }
@@ -219,12 +219,13 @@ module _ {D : Type 0} (faults clock : D → ℕ) (crash : D → ℕ → List ℕ
   pub opened_sound : (store : StoreState D) → IsSound (opened_world store)
   opened_sound store = record {
     paired = refl;
-    defined = λ none. subst (λ (found : Option (List (List ℕ))). AreDefinable (unwrap_or found [])) (sym none) (record { few = omega arith; named = refl; distinct = refl });
+    seen = tt;
+    writable = λ none. integers-none;
     unnamed = λ none. refl;
     no_sessions = λ none. refl;
   }
 
-  pub begins : (store : StoreState D) (written : Option (List ℕ)) → store.doubt ≡ None → store.objects ≡ standing integers (workspace_of store.records []) → ((image : List ℕ) → crash store.disk (clock store.disk) image → LeftRecords store.records store.doubt image) → HasPlayed faults clock crash store.records store.disk [] (opened_play store) written written
+  pub begins : (store : StoreState D) (written : Option (List ℕ)) → store.doubt ≡ None → store.table ≡ stood_by store.records [] → ((image : List ℕ) → crash store.disk (clock store.disk) image → LeftRecords store.records store.doubt image) → HasPlayed faults clock crash store.records store.disk [] (opened_play store) written written
   begins store written certain stands images =
       let P : Option Decoded → Type 0 = λ doubt. Fares SameRecords store.records [] [] (clock store.disk) (clock store.disk) (crash store.disk) store.records doubt in
       record {
@@ -291,10 +292,10 @@ module _ {D : Type 0} (faults clock : D → ℕ) (crash : D → ℕ → List ℕ
   pub disk_rose : (records : List Decoded) (at : D) (s : Streams) (store : StoreState D) → EndsRun faults clock crash records at DiskFault s store → Rose (faults at) (faults store.disk)
   disk_rose records at s store it = ⊎_elim (λ off. off.stopped.rose) (λ off. off.stopped.rose) it
 
-  pub opened_as : (play : Play D) (store : StoreState D) (definitions names : List (List ℕ)) (sessions : List Session) → play ≡ record { world = record { definitions = definitions; store = store; names = names; sessions = sessions }; line = []; refused = false } → definitions ≡ unwrap_or (names_of store.records) [] → names ≡ [] → sessions ≡ [] → play ≡ opened_play store
-  opened_as play store definitions names sessions is defined named none =
-      let of : List (List ℕ) → List (List ℕ) → List Session → Play D = λ definitions names sessions. record { world = record { definitions = definitions; store = store; names = names; sessions = sessions }; line = []; refused = false } in
-      is ∙ ap (λ those. of those names sessions) defined ∙ ap (λ those. of (unwrap_or (names_of store.records) []) those sessions) named ∙ ap (of (unwrap_or (names_of store.records) []) []) none
+  pub opened_as : (play : Play D) (store : StoreState D) (drafted : List Def) (names : List (List ℕ)) (sessions : List Session) → play ≡ record { world = record { drafted = drafted; store = store; names = names; sessions = sessions }; line = []; refused = false } → drafted ≡ [] → names ≡ [] → sessions ≡ [] → play ≡ opened_play store
+  opened_as play store drafted names sessions is undrafted named none =
+      let of : List Def → List (List ℕ) → List Session → Play D = λ drafted names sessions. record { world = record { drafted = drafted; store = store; names = names; sessions = sessions }; line = []; refused = false } in
+      is ∙ ap (λ those. of those names sessions) undrafted ∙ ap (λ those. of [] those sessions) named ∙ ap (of [] []) none
 
   pub sound_as : (play : Play D) (store : StoreState D) → play ≡ opened_play store → IsSound play.world
   sound_as play store is = subst (λ (p : Play D). IsSound p.world) (sym is) (opened_sound store)
@@ -304,10 +305,10 @@ module _ {D : Type 0} (faults clock : D → ℕ) (crash : D → ℕ → List ℕ
       subst (λ start. EndsFrom faults clock crash start ending s other) is (subst (EndsFrom faults clock crash play ending s) (sym same) it)
 
   -- a run over a store that was just loaded
-  module _ (content : D → Option (List ℕ)) (disk : D) (ending : Ending) (s : Streams) (first last : StoreState D) (certain : first.doubt ≡ None) (objects : first.objects ≡ standing integers (workspace_of first.records [])) (images : (image : List ℕ) → crash first.disk (clock first.disk) image → LeftRecords first.records first.doubt image)
+  module _ (content : D → Option (List ℕ)) (disk : D) (ending : Ending) (s : Streams) (first last : StoreState D) (certain : first.doubt ≡ None) (table : first.table ≡ stood_by first.records []) (images : (image : List ℕ) → crash first.disk (clock first.disk) image → LeftRecords first.records first.doubt image)
       (passed : Passed (clock disk) (clock first.disk) (crash disk) (crash first.disk) (crash disk (clock disk))) (later : faults disk ≤ faults first.disk) (ends : EndsFrom faults clock crash (opened_play first) ending s last) where
     ended : EndedAs faults clock crash first.records first.disk ending s last
-    ended = ended_as faults clock crash first.records first.disk ending s last (ends.ends first.records first.disk (begins first s.written_before certain objects images))
+    ended = ended_as faults clock crash first.records first.disk ending s last (ends.ends first.records first.disk (begins first s.written_before certain table images))
 
     pub opened_plays : (after : D) → after ≡ last.disk → ((bytes : List ℕ) → content last.disk ≡ Some bytes → crash last.disk (clock last.disk) bytes) → CanBeOpened first.records → IfSome (content disk) (λ image. HoldsRecords image first.records) → (status : ℕ) → status ≡ status_of ending → Plays s (contents (content disk) (content after) (faults disk) (faults after)) (clock disk) (clock after) (crash disk) (crash after) status
     opened_plays after same is_image opens holds status is =
@@ -320,7 +321,7 @@ module _ {D : Type 0} (faults clock : D → ℕ) (crash : D → ℕ → List ℕ
     pub opened_rose : (after : D) → after ≡ last.disk → (status : ℕ) → status ≡ status_of ending → status ≡ 5 → Rose (faults disk) (faults after)
     opened_rose after same status is five =
         let failed : ending ≡ DiskFault = status-five ending (sym is ∙ five) in
-        subst (λ after. Rose (faults disk) (faults after)) (sym same) (rose-earlier (faults disk) (faults first.disk) (faults last.disk) later (disk_rose first.records first.disk s last (subst (λ ending. EndsRun faults clock crash first.records first.disk ending s last) failed (ends.ends first.records first.disk (begins first s.written_before certain objects images)))))
+        subst (λ after. Rose (faults disk) (faults after)) (sym same) (rose-earlier (faults disk) (faults first.disk) (faults last.disk) later (disk_rose first.records first.disk s last (subst (λ ending. EndsRun faults clock crash first.records first.disk ending s last) failed (ends.ends first.records first.disk (begins first s.written_before certain table images)))))
 
   -- ---- a disk that isn't opened
 

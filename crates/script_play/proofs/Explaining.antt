@@ -12,7 +12,7 @@ use Rattle.script_meaning.specs.Transcript.{opening}
 use Rattle.script_disk.specs.declared.opening.Unopened.{Unopened}
 use Rattle.script_disk.specs.declared.opening.Unopened.TheVariants as unopened
 use Rattle.script_disk.specs.Opened.{ExplainsContent, status_of as unopened_status}
-use Rattle.script_disk.proofs.Completing.{holds_explains, unopened_explains}
+use Rattle.script_disk.proofs.callers.Completing.{holds_explains, unopened_explains}
 use Rattle.script_play.specs.declared.ending.Ending.{Ending}
 use Rattle.script_play.specs.declared.ending.Ending.TheVariants.{Accepted, Refusing, SourceFault, SinkFault, DiskFault, NoMemory, TooLong}
 use Rattle.script_play.specs.Statuses.{status_of}

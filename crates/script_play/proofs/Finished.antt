@@ -89,8 +89,8 @@ module _ {D : Type 0} (faults clock : D → ℕ) (crash : D → ℕ → List ℕ
     stopped-so : (stop : Stop) (new : StoreWorld (StoreState D)) → FinishesWorldSo faults clock crash (Err stop) middle new → HasStopped faults clock crash records at stop (script_events taken) new.store before now
     stopped-so SinkFault new none = absurd none
     stopped-so DiskFault new fails =
-        failed_so faults clock crash records at (script_events taken) (lines_of taken ++ block_ends ∷ []) [] script_ends text refused middle new before now (sym all_events ∙ sym (append-nil ((lines_of taken ++ block_ends ∷ []) ++ script_ends ∷ []))) (any_defined middle.definitions fails.1) block_done fails.0 grows
-    stopped-so NoMemory new same = cut_before faults clock crash records at (script_events taken) (lines_of taken) last_events text refused middle new.store before now refl d (ap (λ (w : StoreWorld (StoreState D)). w.store) same) grows
+        failed_so faults clock crash records at (script_events taken) (lines_of taken ++ block_ends ∷ []) [] script_ends text refused middle new before now (sym all_events ∙ sym (append-nil ((lines_of taken ++ block_ends ∷ []) ++ script_ends ∷ []))) (any_defined middle.drafted fails.1) block_done fails.0 grows
+    stopped-so NoMemory new same = cut_before faults clock crash records at (script_events taken) (lines_of taken) last_events text refused middle new.store before now refl d same grows
 
   pub Finishes-so : (refused : Bool) (old : Play D) (middle new : StoreWorld (StoreState D)) (first now : Option (List ℕ)) → EndsLines faults clock crash refused old first middle now → FinishesWorldSo faults clock crash (Ok tt) middle new → Finishes faults clock crash refused old first new.store now
   Finishes-so refused old middle new first now ends it = record {

@@ -1,3 +1,5 @@
+pub mod Writable
+pub mod Allowing
 pub mod Turning
 pub mod Lines
 pub mod Opening

@@ -1,73 +1,89 @@
 -- What the parts of a line's answer mean on the machine.
-use Rattle.std.specs.Prelude.{◌≡◌, ◌≢◌, ◌≤◌, ◌<◌, ◌&&◌, ◌++◌, ◌⊎◌, ℕ, zero, suc, min, Bool, true, false, List, [], ◌∷◌, length, map, nat_lt, Option, None, Some, Result, Ok, Err, is_none, if◌then◌else◌, slice_index_or, slice_set, refl}
+use Rattle.std.specs.Prelude.{cond, unwrap_or, ◌≡◌, ◌≢◌, ◌≤◌, ◌<◌, ◌&&◌, ◌++◌, ◌⊎◌, ℕ, zero, suc, min, Bool, true, false, List, [], ◌∷◌, length, map, nat_lt, Option, None, Some, Result, Ok, Err, is_none, if◌then◌else◌, slice_index_or, slice_set, refl}
 use Rattle.std.specs.Option.{option_map, option_to_list}
 use Rattle.std.proofs.Common.{◌∙◌, ap, ap₂, sym, subst, inl, inr, ⊎_elim, arith, append_assoc, append-nil, length-set, length-append}
 use Rattle.std.proofs.lemmas.Bool.{true≢false, and_parts, lt-ltb, le-ltb, ltb-true, ltb-false}
 use Rattle.std.proofs.lemmas.Option.{none-some}
-use Rattle.aw_cell.specs.declared.cell.Cell.{Cell}
+use Rattle.aw_schema.specs.declared.definition.Def.{Def}
 use Rattle.aw_cell.specs.Names.{same_word, is_name}
 use Rattle.aw_codec.specs.declared.record.Decoded.{Decoded}
 use Rattle.aw_codec.specs.declared.record.Decoded.TheVariants.{Definitions}
-use Rattle.mv_core.specs.declared.entry.Entry.{Entry}
-use Rattle.mv_core.specs.declared.entry.Entry.TheVariants as entry
-use Rattle.mv_core.specs.declared.entry.Reply.{Reply}
-use Rattle.mv_core.specs.declared.object.Object.{Object}
-use Rattle.mv_core.specs.SharedStep.{writes}
-use Rattle.aw_store.specs.Replay.{names_of}
+use Rattle.mv_core.specs.Workspace.{Table}
+use Rattle.aw_store.specs.Replay.{definitions_of}
 use Rattle.aw_store.specs.Stores.{StoreState}
-use Rattle.ses_report.specs.Refusals.{no_form}
+use Rattle.aw_schema.specs.Definitions.{object_of}
+use Rattle.ses_report.specs.declared.refusal.Refusal.{Refusal}
+use Rattle.ses_report.specs.Refusals.{no_form, not_attached}
 use Rattle.ses_step.specs.declared.answer.Answer.{Answer}
 use Rattle.ses_step.specs.Answers.{answer_of}
 use Rattle.ses_step.specs.declared.line.Command.{Command}
+use Rattle.ses_step.specs.declared.line.Command.TheVariants as command
+use Rattle.ses_step.specs.declared.session.Begun.{Begun}
+use Rattle.ses_step.specs.declared.session.Begun.TheVariants.{Said, Ask}
+use Rattle.ses_step.specs.declared.answer.Answer.TheVariants.{Done, Shown, Refused}
+use Rattle.aw_cell.specs.declared.cell.Cell.TheVariants.{Int}
+use Rattle.mv_core.specs.declared.entry.Entry.TheVariants as entry
 use Rattle.ses_step.specs.declared.line.Line.{Line}
 use Rattle.ses_step.specs.declared.line.Line.TheVariants as line
 use Rattle.ses_step.specs.declared.session.Known.{Known}
 use Rattle.ses_step.specs.declared.session.Session.{Session}
-use Rattle.ses_step.specs.Words.{place_of}
 use Rattle.ses_step.specs.Lines.{line_form}
-use Rattle.ses_step.specs.Sessions.{new_session, resting, name_at}
+use Rattle.ses_step.specs.Sessions.{Sees, new_session, resting, name_at, located, generation_in, is_single_at, cell_in, with_cell}
 use Rattle.script_world.specs.Outcomes.{Outcome, done, Attempt, as_done, all_attempts, attempts_of}
 use Rattle.script_world.specs.Worlds.{Answered, answered_so, refused_so, no_session, silent, defined, defined_so, answers, with_session, closed, shared_of, commanded, crowded_out, settled, block_ends, script_ends}
 use Rattle.script_world.proofs.callers.Moves.{position-le}
-use Rattle.script_meaning.specs.Language.{language, can_define, defined_by, is_any, objects_machine, ObjectsDisk, ObjectsWorld}
+use Rattle.script_meaning.specs.Language.{language, integer, can_define, defined_by, is_any, ObjectsDisk, ObjectsWorld}
 use Rattle.script_meaning.specs.StoreRuns.{store_disk}
 use Rattle.script_meaning.specs.TakingTurns.{with_turn}
-use Rattle.script_meaning.specs.Turns.{Turn, turn}
-use Rattle.script_meaning.proofs.AssignedIntegers.{HasInteger, line_form-integer}
-use Rattle.script_meaning.proofs.Defining.{definable-push}
-use Rattle.script_meaning.proofs.Begins.{AskedOf, asked_by}
-use Rattle.script_meaning.proofs.DiskTurns.{Writes, turn-cases}
-use Rattle.script_meaning.proofs.TakingTurns.{commanded-turn}
+use Rattle.script_meaning.specs.Turns.{Turn, turn, turn_from}
+use Rattle.script_meaning.proofs.callers.AssignedIntegers.{HasInteger, line_form-integer}
+use Rattle.script_meaning.proofs.callers.TakingTurns.{commanded-turn}
 use Rattle.script_play.specs.declared.world.StoreWorld.{StoreWorld}
 use Rattle.script_play.specs.declared.response.Response.{Response}
 use Rattle.script_play.specs.declared.stop.Stop.{Stop}
 use Rattle.script_play.specs.declared.stop.Stop.TheVariants.{SinkFault, DiskFault, NoMemory}
-use Rattle.script_play.specs.StoreWorlds.{known_by, own_known, on_machine, IsMade, IsSound, answered_by, refused_response, can_join, JoinsSo, own_place, placed}
+use Rattle.script_play.proofs.Writable.{integers-push}
+use Rattle.script_play.specs.StoreWorlds.{definitions_in, AllSee, known_by, own_known, on_machine, IsMade, IsSound, answered_by, refused_response, can_join, JoinsSo, own_place, placed}
 use Rattle.script_play.specs.Turning.{machine, Means, defining, IsOpen, DefinesName, command_means, session_means, named_means, form_means, event_means, Moves, Turned, TurnTakes, TurnWants, TurnsAt, Answers, Responds, Takes, Wants, Opens, ClosesSo, StopsSo, RespondsSo}
 use Rattle.script_play.proofs.Turning.{moves-nothing, moves-then}
 
 -- ---- the first command of a session that isn't attached makes no attempt
 
-never-writes : (who : ℕ) (asked : Entry) (reply : Reply) → AskedOf (new_session who) asked → writes asked reply ≡ true → ⊥
-never-writes who (entry.Attach by) reply of writing = true≢false (sym writing)
-never-writes who (entry.Acquire by object number) reply of writing = true≢false (sym writing)
-never-writes who (entry.Commit by []) reply of writing = absurd of
-never-writes who (entry.Commit by (change ∷ changes)) reply of writing = none-some of.0 of.2
+-- an object that it names is refused
+located-none : (definitions : List Def) (who : ℕ) (name : List ℕ) → (refusal : Refusal) × (located definitions (new_session who) name ≡ Err refusal)
+located-none definitions who name = by_place (object_of definitions name)
+  where
+    by_place : (place : Option ℕ) → let found : Result ℕ Refusal = elim place [ None ↦ Err no_form | Some object ↦ Err not_attached ] in (refusal : Refusal) × (found ≡ Err refusal)
+    by_place None = (no_form, refl)
+    by_place (Some object) = (not_attached, refl)
 
-first-turn : (next : ℕ → Outcome) (definitions names : List (List ℕ)) (disk : ObjectsDisk) (who : ℕ) (command : Command) → attempts_of (Some (turn (machine next) definitions names disk (new_session who) command).shared) ≡ attempts_of (Some disk)
-first-turn next definitions names disk who command =
-    let never : (asked : Entry) → Writes objects_machine definitions disk.state (new_session who) command asked true → ⊥ = λ asked it. never-writes who asked _ (asked_by definitions (new_session who) command asked it.asks).1 it.is in
-    turn-cases objects_machine next definitions names disk (new_session who) command (λ (t : Turn ObjectsDisk). attempts_of (Some t.shared) ≡ attempts_of (Some disk)) (λ unwritten. refl) (λ asked it. absurd (never asked it)) (λ asked it. absurd (never asked it))
+module _ (next : ℕ → Outcome) (definitions : List Def) (names : List (List ℕ)) (disk : ObjectsDisk) (who : ℕ) where
+  abbrev first_attempts : Begun × Known → List (Attempt Decoded)
+  first_attempts b = attempts_of (Some (turn_from (machine next) definitions names disk b).shared)
 
-pub any_defined : (d : List (List ℕ)) → d ≢ [] → is_any d ≡ true
+  abbrev single : Result ℕ Refusal → Result ℕ Refusal
+  single found = elim found [ Err refusal ↦ Err refusal | Ok object ↦ cond (is_single_at definitions object) (Ok object) (Err no_form) ]
+
+  first-turn : (own : Command) → attempts_of (Some (turn (machine next) definitions names disk (new_session who) own).shared) ≡ attempts_of (Some disk)
+  first-turn command.Attach = refl
+  first-turn (command.Acquire name) =
+      ap (λ found. first_attempts (elim found [ Err refusal ↦ (Said (Refused refusal), new_session who) | Ok object ↦ (Ask (entry.Acquire who (generation_in (new_session who) object ∷ []) [] []), new_session who) ])) (located-none definitions who name).1
+  first-turn (command.Assign name value) =
+      ap (λ found. first_attempts (elim (single found) [ Err refusal ↦ (Said (Refused refusal), new_session who) | Ok object ↦ (Said Done, with_cell (new_session who) object (Int value)) ])) (located-none definitions who name).1
+  first-turn command.Update = refl
+  first-turn command.Commit = refl
+  first-turn (command.Show name) =
+      ap (λ found. first_attempts (elim (single found) [ Err refusal ↦ (Said (Refused refusal), new_session who) | Ok object ↦ (Said (Shown (cell_in (new_session who) object)), new_session who) ])) (located-none definitions who name).1
+
+pub any_defined : (d : List Def) → d ≢ [] → is_any d ≡ true
 any_defined [] some = absurd (some refl)
-any_defined (name ∷ d) some = refl
+any_defined (def ∷ d) some = refl
 
 -- a world that was just opened, in which no session has appeared
-abbrev just_opened : List (List ℕ) → ObjectsDisk → ObjectsWorld
+abbrev just_opened : List Def → ObjectsDisk → ObjectsWorld
 just_opened definitions disk = record { definitions = definitions; open_lines = []; shared = Some disk; names = []; sessions = [] }
 
-first-line : (next : ℕ → Outcome) (definitions : List (List ℕ)) (disk : ObjectsDisk) (name : List ℕ) (command : Option Command) → attempts_of (session_means name command next (just_opened definitions disk)).world.shared ≡ attempts_of (Some disk)
+first-line : (next : ℕ → Outcome) (definitions : List Def) (disk : ObjectsDisk) (name : List ℕ) (command : Option Command) → attempts_of (session_means name command next (just_opened definitions disk)).world.shared ≡ attempts_of (Some disk)
 first-line next definitions disk name None = refl
 first-line next definitions disk name (Some command) =
     let w : ObjectsWorld = with_session (just_opened definitions disk) name in
@@ -101,6 +117,21 @@ known-set (session ∷ sessions) (suc i) new = ap (λ rest. session.known ∷ re
 known-push : (sessions : List Session) (new : Session) → known_by (sessions ++ new ∷ []) ≡ known_by sessions ++ new.known ∷ []
 known-push [] new = refl
 known-push (session ∷ sessions) new = ap (λ rest. session.known ∷ rest) (known-push sessions new)
+
+-- what each session sees, where one is looked up, set or added
+pub see-held : (definitions : List Def) (sessions : List Session) (i who : ℕ) → AllSee definitions sessions → Sees definitions (slice_index_or sessions i (resting (new_session who))).known
+see-held definitions [] i who all = tt
+see-held definitions (session ∷ sessions) zero who all = all.0
+see-held definitions (session ∷ sessions) (suc i) who all = see-held definitions sessions i who all.1
+
+see-set : (definitions : List Def) (sessions : List Session) (i : ℕ) (new : Session) → AllSee definitions sessions → Sees definitions new.known → AllSee definitions (slice_set sessions i new)
+see-set definitions [] i new all sees = tt
+see-set definitions (session ∷ sessions) zero new all sees = (sees, all.1)
+see-set definitions (session ∷ sessions) (suc i) new all sees = (all.0, see-set definitions sessions i new all.1 sees)
+
+see-push : (definitions : List Def) (sessions : List Session) (new : Session) → AllSee definitions sessions → Sees definitions new.known → AllSee definitions (sessions ++ new ∷ [])
+see-push definitions [] new all sees = (sees, tt)
+see-push definitions (session ∷ sessions) new all sees = (all.0, see-push definitions sessions new all.1 sees)
 
 module _ {D : Type 0} (faults clock : D → ℕ) (crash : D → ℕ → List ℕ → Type 0) where
   -- an event that changes nothing
@@ -138,21 +169,24 @@ module _ {D : Type 0} (faults clock : D → ℕ) (crash : D → ℕ → List ℕ
       (answers_still (command_means who None) (Some (refused_response (name_at w.names who))) w (λ next opened tried.
       ap (λ (those : List Known). let it : ObjectsWorld = record (on_machine opened tried w) { sessions = those } in answered_by (Some (refused_response (name_at w.names who))) it) (set-held (known_by w.sessions) who (new_session who) (omega (arith, here, known-length w.sessions))))))
 
-  module _ (who : ℕ) (it : Command) (old : StoreWorld (StoreState D)) (names : List (List ℕ)) (is : names_of old.store.records ≡ Some names) where
-    -- the world by what is found of the names, and with another store and other sessions
-    abbrev over : Option Decoded → List (Attempt Decoded) → StoreState D → List Known → Option (List (List ℕ)) → ObjectsWorld
-    over opened tried store sessions found = record { definitions = old.definitions; open_lines = []; shared = option_map (store_disk opened tried) (option_map (λ (names : List (List ℕ)). store) found); names = old.names; sessions = sessions }
+  module _ (who : ℕ) (it : Command) (old : StoreWorld (StoreState D)) (definitions : List Def) (is : definitions_of old.store.records ≡ Some definitions) where
+    -- the world by what is found of the definitions, and with another store and other sessions
+    abbrev over : Option Decoded → List (Attempt Decoded) → StoreState D → List Known → Option (List Def) → ObjectsWorld
+    over opened tried store sessions found = record { definitions = unwrap_or found old.drafted; open_lines = []; shared = option_map (store_disk opened tried) (option_map (λ (those : List Def). store) found); names = old.names; sessions = sessions }
+
+    in-store : definitions_in old.store ≡ definitions
+    in-store = ap (λ (found : Option (List Def)). unwrap_or found []) is
 
     abbrev taken : (ℕ → Outcome) → Option Decoded → List (Attempt Decoded) → Turn ObjectsDisk
-    taken next opened tried = turn (machine next) old.definitions old.names (store_disk opened tried old.store) (own_known old who) it
+    taken next opened tried = turn (machine next) definitions old.names (store_disk opened tried old.store) (own_known old who) it
 
-    command-is : (next : ℕ → Outcome) (opened : Option Decoded) (tried : List (Attempt Decoded)) → command_means who (Some it) next (on_machine opened tried old) ≡ with_turn (over opened tried old.store (known_by old.sessions) (Some names)) who (taken next opened tried)
+    command-is : (next : ℕ → Outcome) (opened : Option Decoded) (tried : List (Attempt Decoded)) → command_means who (Some it) next (on_machine opened tried old) ≡ with_turn (over opened tried old.store (known_by old.sessions) (Some definitions)) who (taken next opened tried)
     command-is next opened tried =
         ap (λ found. command_means who (Some it) next (over opened tried old.store (known_by old.sessions) found)) is
-        ∙ commanded-turn (machine next) (over opened tried old.store (known_by old.sessions) (Some names)) who (store_disk opened tried old.store) refl it
-        ∙ ap (λ (known : Known). with_turn (over opened tried old.store (known_by old.sessions) (Some names)) who (turn (machine next) old.definitions old.names (store_disk opened tried old.store) known it)) (known-index old.sessions who (resting (new_session who)))
+        ∙ commanded-turn (machine next) (over opened tried old.store (known_by old.sessions) (Some definitions)) who (store_disk opened tried old.store) refl it
+        ∙ ap (λ (known : Known). with_turn (over opened tried old.store (known_by old.sessions) (Some definitions)) who (turn (machine next) definitions old.names (store_disk opened tried old.store) known it)) (known-index old.sessions who (resting (new_session who)))
 
-    command-answers : (answer : Answer) (after : Session) (store : StoreState D) → Turned faults clock crash old.definitions old.names it answer (own_known old who) after.known old.store store →
+    command-answers : (answer : Answer) (after : Session) (store : StoreState D) → Turned faults clock crash definitions old.names it answer (own_known old who) after.known old.store store →
         Answers faults clock crash (command_means who (Some it)) (Some (record { prefix = name_at old.names who; answer = answer })) old (record old { store = store; sessions = slice_set old.sessions who after })
     command-answers answer after store t = record {
       told = t.told;
@@ -161,19 +195,23 @@ module _ {D : Type 0} (faults clock : D → ℕ) (crash : D → ℕ → List ℕ
       moves = t.moves;
       means_so = λ next opened tried made tells.
           command-is next opened tried
-          ∙ ap (with_turn (over opened tried old.store (known_by old.sessions) (Some names)) who) (t.turns next opened tried tells)
-          ∙ ap (λ (sessions : List Known). let w : ObjectsWorld = over opened (tried ++ t.more) store sessions (Some names) in answered_so (name_at old.names who) (answer_of answer) w) (known-set old.sessions who after)
-          ∙ ap (λ found. let w : ObjectsWorld = over opened (tried ++ t.more) store (known_by (slice_set old.sessions who after)) found in answered_so (name_at old.names who) (answer_of answer) w) (sym (t.moves.keeps_open names is));
-      all_made = λ opened tried made none. absurd (none-some names (sym none ∙ t.moves.keeps_open names is));
+          ∙ ap (with_turn (over opened tried old.store (known_by old.sessions) (Some definitions)) who) (t.turns next opened tried tells)
+          ∙ ap (λ (sessions : List Known). let w : ObjectsWorld = over opened (tried ++ t.more) store sessions (Some definitions) in answered_so (name_at old.names who) (answer_of answer) w) (known-set old.sessions who after)
+          ∙ ap (λ found. let w : ObjectsWorld = over opened (tried ++ t.more) store (known_by (slice_set old.sessions who after)) found in answered_so (name_at old.names who) (answer_of answer) w) (sym (t.moves.keeps_open definitions is));
+      all_made = λ opened tried made none. absurd (none-some definitions (sym none ∙ t.moves.keeps_open definitions is));
       keeps_sound = λ sound. record {
         paired = length-set old.sessions who after ∙ sound.paired;
-        defined = λ none. absurd (none-some names (sym none ∙ t.moves.keeps_open names is));
-        unnamed = λ none. absurd (none-some names (sym none ∙ t.moves.keeps_open names is));
-        no_sessions = λ none. absurd (none-some names (sym none ∙ t.moves.keeps_open names is));
+        seen =
+            let before : AllSee definitions old.sessions = subst (λ those. AllSee those old.sessions) in-store sound.seen in
+            subst (λ those. AllSee those (slice_set old.sessions who after)) (sym (ap (λ (found : Option (List Def)). unwrap_or found []) (t.moves.keeps_open definitions is)))
+            (see-set definitions old.sessions who after before (t.keeps_seen (see-held definitions old.sessions who who before)));
+        writable = λ none. absurd (none-some definitions (sym none ∙ t.moves.keeps_open definitions is));
+        unnamed = λ none. absurd (none-some definitions (sym none ∙ t.moves.keeps_open definitions is));
+        no_sessions = λ none. absurd (none-some definitions (sym none ∙ t.moves.keeps_open definitions is));
       };
     }
 
-    command-takes : (new : StoreWorld (StoreState D)) → TurnTakes faults clock crash old.definitions old.names it (own_known old who) old.store new.store → Takes faults clock crash (command_means who (Some it)) old new
+    command-takes : (new : StoreWorld (StoreState D)) → TurnTakes faults clock crash definitions old.names it (own_known old who) old.store new.store → Takes faults clock crash (command_means who (Some it)) old new
     command-takes new t = record {
       told = t.told;
       more = t.more;
@@ -184,13 +222,13 @@ module _ {D : Type 0} (faults clock : D → ℕ) (crash : D → ℕ → List ℕ
   pub command_some : (who : ℕ) (command : Option Command) (it : Command) (answer : Answer) (prefix : List ℕ) (old new : StoreWorld (StoreState D)) → command ≡ Some it → prefix ≡ name_at old.names who → IsOpen old.store → TurnsAt faults clock crash it answer who old new → Answers faults clock crash (command_means who command) (Some (record { prefix = prefix; answer = answer })) old new
   command_some who command it answer prefix old new is prefix_is open_is turns =
       let P : Option Command → List ℕ → StoreWorld (StoreState D) → Type 0 = λ command prefix w. Answers faults clock crash (command_means who command) (Some (record { prefix = prefix; answer = answer })) old w in
-      let at : P (Some it) (name_at old.names who) (record old { store = new.store; sessions = slice_set old.sessions who turns.after }) = command-answers who it old open_is.0 open_is.1 answer turns.after new.store turns.turned in
+      let at : P (Some it) (name_at old.names who) (record old { store = new.store; sessions = slice_set old.sessions who turns.after }) = command-answers who it old open_is.0 open_is.1 answer turns.after new.store (subst (λ definitions. Turned faults clock crash definitions old.names it answer (own_known old who) turns.after.known old.store new.store) (in-store who it old open_is.0 open_is.1) turns.turned) in
       subst (λ c. P c prefix new) (sym is) (subst (λ p. P (Some it) p new) (sym prefix_is) (subst (P (Some it) (name_at old.names who)) (sym turns.rest) at))
 
-  pub command_wants : (who : ℕ) (command : Option Command) (it : Command) (old new : StoreWorld (StoreState D)) → command ≡ Some it → IsOpen old.store → TurnWants faults clock crash old.definitions old.names it (own_known old who) old.store new.store → Wants faults clock crash (command_means who command) old new
+  pub command_wants : (who : ℕ) (command : Option Command) (it : Command) (old new : StoreWorld (StoreState D)) → command ≡ Some it → IsOpen old.store → TurnWants faults clock crash (definitions_in old.store) old.names it (own_known old who) old.store new.store → Wants faults clock crash (command_means who command) old new
   command_wants who command it old new is open_is wants =
       subst (λ c. Wants faults clock crash (command_means who c) old new) (sym is)
-      (⊎_elim (λ same. let it : Wants faults clock crash (command_means who (Some it)) old new = inl same in it) (λ takes. inr (command-takes who it old open_is.0 open_is.1 new takes)) wants)
+      (⊎_elim (λ same. let it : Wants faults clock crash (command_means who (Some it)) old new = inl same in it) (λ takes. inr (command-takes who it old open_is.0 open_is.1 new (subst (λ definitions. TurnTakes faults clock crash definitions old.names it (own_known old who) old.store new.store) (in-store who it old open_is.0 open_is.1) takes))) wants)
 
   -- ---- under a session's name
 
@@ -225,10 +263,22 @@ module _ {D : Type 0} (faults clock : D → ℕ) (crash : D → ℕ → List ℕ
   session-is next opened tried w name command =
       ap (λ those. planned_at next command (own_place w name) those (nat_lt (own_place w name) 64)) (placed-is opened tried w name)
 
+  placed-see : (w : StoreWorld (StoreState D)) (name : List ℕ) → AllSee (definitions_in w.store) w.sessions → AllSee (definitions_in (placed w name).store) (placed w name).sessions
+  placed-see w name all = by_test (nat_lt (own_place w name) (length w.names))
+    where
+      by_room : (room : Bool) → AllSee (definitions_in w.store) (if room then w.sessions ++ resting (new_session (length w.names)) ∷ [] else w.sessions)
+      by_room true = see-push (definitions_in w.store) w.sessions (resting (new_session (length w.names))) all tt
+      by_room false = all
+
+      by_test : (test : Bool) → AllSee (definitions_in w.store) (if test then w.sessions else (if nat_lt (length w.names) 64 then w.sessions ++ resting (new_session (length w.names)) ∷ [] else w.sessions))
+      by_test true = all
+      by_test false = by_room (nat_lt (length w.names) 64)
+
   placed-sound : (w : StoreWorld (StoreState D)) (name : List ℕ) → IsOpen w.store → IsSound w → IsSound (placed w name)
   placed-sound w name open_is sound = record {
     paired = by_test (nat_lt (own_place w name) (length w.names));
-    defined = λ none. absurd (none-some open_is.0 (sym none ∙ open_is.1));
+    seen = placed-see w name sound.seen;
+    writable = λ none. absurd (none-some open_is.0 (sym none ∙ open_is.1));
     unnamed = λ none. absurd (none-some open_is.0 (sym none ∙ open_is.1));
     no_sessions = λ none. absurd (none-some open_is.0 (sym none ∙ open_is.1));
   }
@@ -241,6 +291,9 @@ module _ {D : Type 0} (faults clock : D → ℕ) (crash : D → ℕ → List ℕ
       by_test : (test : Bool) → length (if test then w.sessions else (if nat_lt (length w.names) 64 then w.sessions ++ resting (new_session (length w.names)) ∷ [] else w.sessions)) ≡ min (length (if test then w.names else w.names ++ name ∷ [])) 64
       by_test true = sound.paired
       by_test false = by_room (nat_lt (length w.names) 64) refl
+
+  pub placed_seen : (name : List ℕ) (w middle : StoreWorld (StoreState D)) → middle ≡ placed w name → AllSee (definitions_in w.store) w.sessions → AllSee (definitions_in middle.store) middle.sessions
+  placed_seen name w middle is all = subst (λ (those : StoreWorld (StoreState D)). AllSee (definitions_in those.store) those.sessions) (sym is) (placed-see w name all)
 
   -- a session that is one of 64 stands at its place
   pub placed-inside : (w : StoreWorld (StoreState D)) (name : List ℕ) → length w.sessions ≡ min (length w.names) 64 → own_place w name < 64 → own_place w name < length (placed w name).sessions
@@ -310,29 +363,30 @@ module _ {D : Type 0} (faults clock : D → ℕ) (crash : D → ℕ → List ℕ
   closed-already next opened tried w open_is =
       subst (λ found. closed (machine next).opens (over_found found) ≡ over_found found) (sym open_is.1) refl
     where
-      over_found : Option (List (List ℕ)) → ObjectsWorld
-      over_found found = record { definitions = w.definitions; open_lines = []; shared = option_map (store_disk opened tried) (option_map (λ (names : List (List ℕ)). w.store) found); names = w.names; sessions = known_by w.sessions }
+      over_found : Option (List Def) → ObjectsWorld
+      over_found found = record { definitions = unwrap_or found w.drafted; open_lines = []; shared = option_map (store_disk opened tried) (option_map (λ (those : List Def). w.store) found); names = w.names; sessions = known_by w.sessions }
 
   -- the record of these definitions
-  abbrev written_definitions : List (List ℕ) → Decoded
-  written_definitions names = Definitions names
+  abbrev written_definitions : List Def → Decoded
+  written_definitions definitions = Definitions definitions
 
-  closed-now : (next : ℕ → Outcome) (opened : Option Decoded) (tried : List (Attempt Decoded)) (old middle : StoreWorld (StoreState D)) → Opens faults clock crash old middle → IsMade opened tried old.store → closed (machine next).opens (on_machine opened tried old) ≡ on_machine (Some (written_definitions old.definitions)) tried middle
+  closed-now : (next : ℕ → Outcome) (opened : Option Decoded) (tried : List (Attempt Decoded)) (old middle : StoreWorld (StoreState D)) → Opens faults clock crash old middle → IsMade opened tried old.store → closed (machine next).opens (on_machine opened tried old) ≡ on_machine (Some (written_definitions old.drafted)) tried middle
   closed-now next opened tried old middle opens made =
-      ap (λ found. closed (machine next).opens (over_found old.store opened tried found)) opens.unopened
-      ∙ ap₂ (λ (objects : List (Object Cell)) (those : List (Attempt Decoded)). let w : ObjectsWorld = record { definitions = old.definitions; open_lines = []; shared = Some (record { state = objects; opened = Some (written_definitions old.definitions); tried = those }); names = old.names; sessions = known_by old.sessions } in w) (sym opens.objects) (sym (made opens.unopened).1)
-      ∙ ap (over_found middle.store (Some (written_definitions old.definitions)) tried) (sym opens.names)
-      ∙ ap (on_machine (Some (written_definitions old.definitions)) tried) (sym opens.rest)
+      ap (λ found. closed (machine next).opens (over_found old.store old.drafted opened tried found)) opens.unopened
+      ∙ ap₂ (λ (table : Table) (those : List (Attempt Decoded)). let w : ObjectsWorld = record { definitions = old.drafted; open_lines = []; shared = Some (record { state = table; opened = Some (written_definitions old.drafted); tried = those }); names = old.names; sessions = known_by old.sessions } in w) (sym opens.table) (sym (made opens.unopened).1)
+      ∙ ap (over_found middle.store [] (Some (written_definitions old.drafted)) tried) (sym opens.defined)
+      ∙ ap (on_machine (Some (written_definitions old.drafted)) tried) (sym opens.rest)
     where
-      over_found : StoreState D → Option Decoded → List (Attempt Decoded) → Option (List (List ℕ)) → ObjectsWorld
-      over_found store opened those found = record { definitions = old.definitions; open_lines = []; shared = option_map (store_disk opened those) (option_map (λ (names : List (List ℕ)). store) found); names = old.names; sessions = known_by old.sessions }
+      over_found : StoreState D → List Def → Option Decoded → List (Attempt Decoded) → Option (List Def) → ObjectsWorld
+      over_found store drafted opened those found = record { definitions = unwrap_or found drafted; open_lines = []; shared = option_map (store_disk opened those) (option_map (λ (those : List Def). store) found); names = old.names; sessions = known_by old.sessions }
 
   opens-sound : (old middle : StoreWorld (StoreState D)) → Opens faults clock crash old middle → IsSound old → IsSound middle
   opens-sound old middle opens sound = record {
     paired = subst (λ (w : StoreWorld (StoreState D)). length w.sessions ≡ min (length w.names) 64) (sym opens.rest) sound.paired;
-    defined = λ none. absurd (none-some old.definitions (sym none ∙ opens.names));
-    unnamed = λ none. absurd (none-some old.definitions (sym none ∙ opens.names));
-    no_sessions = λ none. absurd (none-some old.definitions (sym none ∙ opens.names));
+    seen = subst (λ (sessions : List Session). AllSee (definitions_in middle.store) sessions) (sym (ap (λ (w : StoreWorld (StoreState D)). w.sessions) opens.rest ∙ sound.no_sessions opens.unopened)) tt;
+    writable = λ none. absurd (none-some old.drafted (sym none ∙ opens.defined));
+    unnamed = λ none. absurd (none-some old.drafted (sym none ∙ opens.defined));
+    no_sessions = λ none. absurd (none-some old.drafted (sym none ∙ opens.defined));
   }
 
   -- all attempts, where there was none before the definitions were written
@@ -343,15 +397,15 @@ module _ {D : Type 0} (faults clock : D → ℕ) (crash : D → ℕ → List ℕ
   -- the definitions are written, and then nothing is answered
   pub opens_answer : (means : Means) (old middle : StoreWorld (StoreState D)) → Opens faults clock crash old middle → ((next : ℕ → Outcome) (opened : Option Decoded) (tried : List (Attempt Decoded)) → means next (on_machine opened tried old) ≡ silent (closed (machine next).opens (on_machine opened tried old))) → Responds faults clock crash means None old middle
   opens_answer means old middle opens is = record {
-    opening = Some (written_definitions old.definitions);
+    opening = Some (written_definitions old.drafted);
     told = [];
     more = [];
     as_many = refl;
     moves = opens.moves;
     means_so = λ next opened tried made tells.
-        is next opened tried ∙ ap silent (closed-now next opened tried old middle opens made) ∙ ap (λ those. silent (on_machine (Some (written_definitions old.definitions)) those middle)) (sym (append-nil tried));
-    all_made = λ opened tried made none. absurd (none-some old.definitions (sym none ∙ opens.names));
-    behind = λ opened tried made. behind-opened (written_definitions old.definitions) opened tried [] (made opens.unopened).0 (made opens.unopened).1;
+        is next opened tried ∙ ap silent (closed-now next opened tried old middle opens made) ∙ ap (λ those. silent (on_machine (Some (written_definitions old.drafted)) those middle)) (sym (append-nil tried));
+    all_made = λ opened tried made none. absurd (none-some old.drafted (sym none ∙ opens.defined));
+    behind = λ opened tried made. behind-opened (written_definitions old.drafted) opened tried [] (made opens.unopened).0 (made opens.unopened).1;
     keeps_sound = opens-sound old middle opens;
   }
 
@@ -368,14 +422,14 @@ module _ {D : Type 0} (faults clock : D → ℕ) (crash : D → ℕ → List ℕ
 
   named-now : (name : List ℕ) (command : Option Command) (response : Response) (old middle new : StoreWorld (StoreState D)) → Opens faults clock crash old middle → Answers faults clock crash (session_means name command) (Some response) middle new → Responds faults clock crash (named_means name command) (Some response) old new
   named-now name command response old middle new opens it =
-      let first : Decoded = written_definitions old.definitions in
-      let was_made : (tried : List (Attempt Decoded)) → IsMade (Some first) tried middle.store = λ tried none. absurd (none-some old.definitions (sym none ∙ opens.names)) in
+      let first : Decoded = written_definitions old.drafted in
+      let was_made : (tried : List (Attempt Decoded)) → IsMade (Some first) tried middle.store = λ tried none. absurd (none-some old.drafted (sym none ∙ opens.defined)) in
       record {
         opening = Some first;
         told = it.told;
         more = it.more;
         as_many = it.as_many;
-        moves = moves-then faults clock crash [] it.told (defining old.definitions done ∷ []) it.more old.store middle.store new.store opens.moves it.moves;
+        moves = moves-then faults clock crash [] it.told (defining old.drafted done ∷ []) it.more old.store middle.store new.store opens.moves it.moves;
         means_so = λ next opened tried made tells. ap (session_means name command next) (closed-now next opened tried old middle opens made) ∙ it.means_so next (Some first) tried (was_made tried) tells;
         all_made = λ opened tried made none. it.all_made (Some first) tried (was_made tried) none;
         behind = λ opened tried made. behind-opened first opened tried it.more (made opens.unopened).0 (made opens.unopened).1;
@@ -394,27 +448,27 @@ module _ {D : Type 0} (faults clock : D → ℕ) (crash : D → ℕ → List ℕ
     moves = moves-then faults clock crash [] takes.told first takes.more old.store middle.store new.store opens.moves takes.moves;
     made_so = λ next opened tried made tells.
         attempts_as next (closed-now next opened tried old middle opens made)
-        ∙ takes.made_so next (Some (written_definitions old.definitions)) tried (λ none. absurd (none-some old.definitions (sym none ∙ opens.names))) tells
+        ∙ takes.made_so next (Some (written_definitions old.drafted)) tried (λ none. absurd (none-some old.drafted (sym none ∙ opens.defined))) tells
         ∙ ap (λ those. those ++ takes.more) (opened_first opened tried made) ∙ append_assoc (all_attempts opened tried) first takes.more;
   }) wants
     where
       first : List (Attempt Decoded)
-      first = defining old.definitions done ∷ []
+      first = defining old.drafted done ∷ []
 
-      opened_first : (opened : Option Decoded) (tried : List (Attempt Decoded)) → IsMade opened tried old.store → all_attempts (Some (written_definitions old.definitions)) tried ≡ all_attempts opened tried ++ first
+      opened_first : (opened : Option Decoded) (tried : List (Attempt Decoded)) → IsMade opened tried old.store → all_attempts (Some (written_definitions old.drafted)) tried ≡ all_attempts opened tried ++ first
       opened_first opened tried made =
-          ap (all_attempts (Some (written_definitions old.definitions))) (made opens.unopened).1
+          ap (all_attempts (Some (written_definitions old.drafted))) (made opens.unopened).1
           ∙ sym (ap₂ (λ (those : Option Decoded) (tried : List (Attempt Decoded)). all_attempts those tried ++ first) (made opens.unopened).0 (made opens.unopened).1)
 
       attempts_as : {one other : ObjectsWorld} (next : ℕ → Outcome) → one ≡ other → attempts_of (session_means name command next one).world.shared ≡ attempts_of (session_means name command next other).world.shared
       attempts_as next same = ap (λ those. attempts_of (session_means name command next those).world.shared) same
 
-      opened_world : (tried : List (Attempt Decoded)) → on_machine (Some (written_definitions old.definitions)) tried middle ≡ just_opened old.definitions (store_disk (Some (written_definitions old.definitions)) tried middle.store)
+      opened_world : (tried : List (Attempt Decoded)) → on_machine (Some (written_definitions old.drafted)) tried middle ≡ just_opened old.drafted (store_disk (Some (written_definitions old.drafted)) tried middle.store)
       opened_world tried =
-          let disk : StoreState D → ObjectsDisk = store_disk (Some (written_definitions old.definitions)) tried in
-          ap (on_machine (Some (written_definitions old.definitions)) tried) opens.rest
-          ∙ ap (λ found. let w : ObjectsWorld = record { definitions = old.definitions; open_lines = []; shared = option_map disk (option_map (λ (names : List (List ℕ)). middle.store) found); names = old.names; sessions = known_by old.sessions } in w) opens.names
-          ∙ ap₂ (λ (names : List (List ℕ)) (sessions : List Session). let w : ObjectsWorld = record { definitions = old.definitions; open_lines = []; shared = Some (disk middle.store); names = names; sessions = known_by sessions } in w) (sound.unnamed opens.unopened) (sound.no_sessions opens.unopened)
+          let disk : StoreState D → ObjectsDisk = store_disk (Some (written_definitions old.drafted)) tried in
+          ap (on_machine (Some (written_definitions old.drafted)) tried) opens.rest
+          ∙ ap (λ found. let w : ObjectsWorld = record { definitions = unwrap_or found []; open_lines = []; shared = option_map disk (option_map (λ (those : List Def). middle.store) found); names = old.names; sessions = known_by old.sessions } in w) opens.defined
+          ∙ ap₂ (λ (names : List (List ℕ)) (sessions : List Session). let w : ObjectsWorld = record { definitions = old.drafted; open_lines = []; shared = Some (disk middle.store); names = names; sessions = known_by sessions } in w) (sound.unnamed opens.unopened) (sound.no_sessions opens.unopened)
 
       still : new.store ≡ middle.store → Takes faults clock crash (named_means name command) old new
       still same = record {
@@ -423,7 +477,7 @@ module _ {D : Type 0} (faults clock : D → ℕ) (crash : D → ℕ → List ℕ
         moves = subst (λ store. Moves faults clock crash [] first old.store store) (sym same) opens.moves;
         made_so = λ next opened tried made tells.
             attempts_as next (closed-now next opened tried old middle opens made ∙ opened_world tried)
-            ∙ first-line next old.definitions (store_disk (Some (written_definitions old.definitions)) tried middle.store) name command
+            ∙ first-line next old.drafted (store_disk (Some (written_definitions old.drafted)) tried middle.store) name command
             ∙ opened_first opened tried made;
       }
 
@@ -442,7 +496,11 @@ module _ {D : Type 0} (faults clock : D → ℕ) (crash : D → ℕ → List ℕ
 
   pub closes_open : (old middle : StoreWorld (StoreState D)) → ((middle ≡ old) × IsOpen old.store) ⊎ Opens faults clock crash old middle → IsOpen middle.store
   closes_open old middle closes =
-      ⊎_elim (λ already. subst (λ (w : StoreWorld (StoreState D)). IsOpen w.store) (sym already.0) already.1) (λ opens. let it : IsOpen middle.store = (old.definitions, opens.names) in it) closes
+      ⊎_elim (λ already. subst (λ (w : StoreWorld (StoreState D)). IsOpen w.store) (sym already.0) already.1) (λ opens. let it : IsOpen middle.store = (old.drafted, opens.defined) in it) closes
+
+  pub closes_seen : (old middle : StoreWorld (StoreState D)) → ((middle ≡ old) × IsOpen old.store) ⊎ Opens faults clock crash old middle → IsSound old → AllSee (definitions_in middle.store) middle.sessions
+  closes_seen old middle closes sound =
+      ⊎_elim (λ already. subst (λ (w : StoreWorld (StoreState D)). AllSee (definitions_in w.store) w.sessions) (sym already.0) sound.seen) (λ opens. (opens-sound old middle opens sound).seen) closes
 
   pub closes_paired : (old middle : StoreWorld (StoreState D)) → ((middle ≡ old) × IsOpen old.store) ⊎ Opens faults clock crash old middle → length old.sessions ≡ min (length old.names) 64 → length middle.sessions ≡ min (length middle.names) 64
   closes_paired old middle closes paired =
@@ -451,7 +509,7 @@ module _ {D : Type 0} (faults clock : D → ℕ) (crash : D → ℕ → List ℕ
 
   pub stops_closing : (means : Means) (stop : Stop) (old new : StoreWorld (StoreState D)) → ClosesSo faults clock crash (Err stop) old new → StopsSo faults clock crash means stop old new
   stops_closing means DiskFault old new fails = fails
-  stops_closing means NoMemory old new same = inl (ap (λ (w : StoreWorld (StoreState D)). w.store) same)
+  stops_closing means NoMemory old new same = inl same
   stops_closing means SinkFault old new none = none
 
   -- ---- the end of the script
@@ -460,23 +518,26 @@ module _ {D : Type 0} (faults clock : D → ℕ) (crash : D → ℕ → List ℕ
   pub block_responds : (w : StoreWorld (StoreState D)) → Responds faults clock crash (event_means block_ends) None w w
   block_responds w = responds (event_means block_ends) None w w (answers_still (event_means block_ends) None w (λ next opened tried. refl))
 
-  pub ended_still : (w : StoreWorld (StoreState D)) → IsOpen w.store ⊎ (w.definitions ≡ []) → Responds faults clock crash (event_means script_ends) None w w
+  pub ended_still : (w : StoreWorld (StoreState D)) → IsOpen w.store ⊎ ((definitions_of w.store.records ≡ None) × (w.drafted ≡ [])) → Responds faults clock crash (event_means script_ends) None w w
   ended_still w why = responds (event_means script_ends) None w w (answers_still (event_means script_ends) None w (λ next opened tried. ap silent (same next opened tried)))
     where
-      ended : (ℕ → Outcome) → Option Decoded → List (Attempt Decoded) → List (List ℕ) → ObjectsWorld
+      ended : (ℕ → Outcome) → Option Decoded → List (Attempt Decoded) → List Def → ObjectsWorld
       ended next opened tried d = if is_any d then closed (machine next).opens (on_machine opened tried w) else on_machine opened tried w
 
       either : (next : ℕ → Outcome) (opened : Option Decoded) (tried : List (Attempt Decoded)) (any : Bool) → closed (machine next).opens (on_machine opened tried w) ≡ on_machine opened tried w → (if any then closed (machine next).opens (on_machine opened tried w) else on_machine opened tried w) ≡ on_machine opened tried w
       either next opened tried true is = is
       either next opened tried false is = refl
 
-      same : (next : ℕ → Outcome) (opened : Option Decoded) (tried : List (Attempt Decoded)) → ended next opened tried w.definitions ≡ on_machine opened tried w
-      same next opened tried =
-          ⊎_elim (λ open_is. either next opened tried (is_any w.definitions) (closed-already next opened tried w open_is)) (λ none. ap (ended next opened tried) none) why
+      there : List Def
+      there = unwrap_or (definitions_of w.store.records) w.drafted
 
-  pub ended_opens : (old new : StoreWorld (StoreState D)) → Opens faults clock crash old new → old.definitions ≢ [] → Responds faults clock crash (event_means script_ends) None old new
+      same : (next : ℕ → Outcome) (opened : Option Decoded) (tried : List (Attempt Decoded)) → ended next opened tried there ≡ on_machine opened tried w
+      same next opened tried =
+          ⊎_elim (λ open_is. either next opened tried (is_any there) (closed-already next opened tried w open_is)) (λ none. ap (ended next opened tried) (ap₂ (λ (found : Option (List Def)) (drafted : List Def). unwrap_or found drafted) none.0 none.1)) why
+
+  pub ended_opens : (old new : StoreWorld (StoreState D)) → Opens faults clock crash old new → old.drafted ≢ [] → Responds faults clock crash (event_means script_ends) None old new
   ended_opens old new opens some =
-      opens_answer (event_means script_ends) old new opens (λ next opened tried. ap (λ (any : Bool). let w : ObjectsWorld = on_machine opened tried old in silent (if any then closed (machine next).opens w else w)) (any_defined old.definitions some))
+      opens_answer (event_means script_ends) old new opens (λ next opened tried. ap (λ (any : Bool). let w : ObjectsWorld = on_machine opened tried old in silent (if any then closed (machine next).opens w else w)) (ap (λ (found : Option (List Def)). is_any (unwrap_or found old.drafted)) opens.unopened ∙ any_defined old.drafted some))
 
   -- ---- what holds of the form of a line
 
@@ -494,44 +555,42 @@ module _ {D : Type 0} (faults clock : D → ℕ) (crash : D → ℕ → List ℕ
   -- ---- a definition
 
   -- what a definition line is answered, whether the store has definitions or not
-  defined-is : (opened : Option Decoded) (tried : List (Attempt Decoded)) (w : StoreWorld (StoreState D)) (text name : List ℕ) → line_form text ≡ line.Definition name → (can : Bool) → can_join w name ≡ can → defined (on_machine opened tried w) (text ∷ []) ≡ (if can then silent (on_machine opened tried (record w { definitions = w.definitions ++ name ∷ [] })) else refused_so no_session no_form (on_machine opened tried w))
-  defined-is opened tried w text name form can is = by_found (names_of w.store.records) is
+  defined-is : (opened : Option Decoded) (tried : List (Attempt Decoded)) (w : StoreWorld (StoreState D)) (text name : List ℕ) → line_form text ≡ line.Definition name → (can : Bool) → can_join w name ≡ can → defined (on_machine opened tried w) (text ∷ []) ≡ (if can then silent (on_machine opened tried (record w { drafted = w.drafted ++ integer name ∷ [] })) else refused_so no_session no_form (on_machine opened tried w))
+  defined-is opened tried w text name form can is = by_found (definitions_of w.store.records) is
     where
-      over_found : Option (List (List ℕ)) → List (List ℕ) → ObjectsWorld
-      over_found found d = record { definitions = d; open_lines = []; shared = option_map (store_disk opened tried) (option_map (λ (names : List (List ℕ)). w.store) found); names = w.names; sessions = known_by w.sessions }
+      over_found : Option (List Def) → List Def → ObjectsWorld
+      over_found found drafted = record { definitions = unwrap_or found drafted; open_lines = []; shared = option_map (store_disk opened tried) (option_map (λ (those : List Def). w.store) found); names = w.names; sessions = known_by w.sessions }
 
-      longer : List (List ℕ)
-      longer = w.definitions ++ name ∷ []
+      longer : List Def
+      longer = w.drafted ++ integer name ∷ []
 
-      by_can : (test can : Bool) → test ≡ can → defined_so (over_found None w.definitions) (if test then Ok longer else Err no_form) ≡ (if can then silent (over_found None longer) else refused_so no_session no_form (over_found None w.definitions))
+      by_can : (test can : Bool) → test ≡ can → defined_so (over_found None w.drafted) (if test then Ok longer else Err no_form) ≡ (if can then silent (over_found None longer) else refused_so no_session no_form (over_found None w.drafted))
       by_can true true same = refl
       by_can false false same = refl
       by_can true false same = absurd (true≢false same)
       by_can false true same = absurd (true≢false (sym same))
 
-      by_found : (found : Option (List (List ℕ))) → (is_none found && nat_lt (length w.definitions) 4096 && is_none (place_of w.definitions name)) ≡ can → defined (over_found found w.definitions) (text ∷ []) ≡ (if can then silent (over_found found longer) else refused_so no_session no_form (over_found found w.definitions))
+      by_found : (found : Option (List Def)) → (is_none found && can_define w.drafted name) ≡ can → defined (over_found found w.drafted) (text ∷ []) ≡ (if can then silent (over_found found longer) else refused_so no_session no_form (over_found found w.drafted))
       by_found None same =
-          ap (λ l. defined_so (over_found None w.definitions) (defined_by w.definitions l)) form ∙ by_can (can_define w.definitions name) can same
-      by_found (Some names) same = by_none can same
+          ap (λ l. defined_so (over_found None w.drafted) (defined_by w.drafted l)) form ∙ by_can (can_define w.drafted name) can same
+      by_found (Some definitions) same = by_none can same
         where
-          by_none : (can : Bool) → false ≡ can → refused_so no_session no_form (over_found (Some names) w.definitions) ≡ (if can then silent (over_found (Some names) longer) else refused_so no_session no_form (over_found (Some names) w.definitions))
+          by_none : (can : Bool) → false ≡ can → refused_so no_session no_form (over_found (Some definitions) w.drafted) ≡ (if can then silent (over_found (Some definitions) longer) else refused_so no_session no_form (over_found (Some definitions) w.drafted))
           by_none false same = refl
           by_none true same = absurd (true≢false (sym same))
 
-  joined-sound : (w : StoreWorld (StoreState D)) (name : List ℕ) → is_name name ≡ true → can_join w name ≡ true → IsSound w → IsSound (record w { definitions = w.definitions ++ name ∷ [] })
-  joined-sound w name named can sound =
-      let parts = and_parts (is_none (names_of w.store.records) && nat_lt (length w.definitions) 4096) (is_none (place_of w.definitions name)) can in
-      let few = ltb-true (length w.definitions) 4096 (and_parts (is_none (names_of w.store.records)) (nat_lt (length w.definitions) 4096) parts.0).1 in
-      record {
-        paired = sound.paired;
-        defined = λ none. definable-push w.definitions name (sound.defined none) named few parts.1;
-        unnamed = sound.unnamed;
-        no_sessions = sound.no_sessions;
-      }
+  joined-sound : (w : StoreWorld (StoreState D)) (name : List ℕ) → is_name name ≡ true → can_join w name ≡ true → IsSound w → IsSound (record w { drafted = w.drafted ++ integer name ∷ [] })
+  joined-sound w name named can sound = record {
+    paired = sound.paired;
+    seen = sound.seen;
+    writable = λ none. integers-push w.drafted name (sound.writable none) named (and_parts (is_none (definitions_of w.store.records)) (can_define w.drafted name) can).1;
+    unnamed = sound.unnamed;
+    no_sessions = sound.no_sessions;
+  }
 
   pub joins_answers : (text name : List ℕ) (response : Option Response) (old new : StoreWorld (StoreState D)) → line_form text ≡ line.Definition name → is_name name ≡ true → JoinsSo name response old new → Responds faults clock crash (form_means text (line.Definition name)) response old new
   joins_answers text name None old new form named joins =
-      let longer : StoreWorld (StoreState D) = record old { definitions = old.definitions ++ name ∷ [] } in
+      let longer : StoreWorld (StoreState D) = record old { drafted = old.drafted ++ integer name ∷ [] } in
       let means : Means = form_means text (line.Definition name) in
       let it : Answers faults clock crash means None old longer = record {
         told = [];

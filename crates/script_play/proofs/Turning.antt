@@ -1,26 +1,28 @@
 -- What the calls of a store do, as parts of the answer to a line.
-use Rattle.std.specs.Prelude.{◌≡◌, ◌≢◌, ◌≤◌, ◌+◌, ◌++◌, ◌⊎◌, ℕ, suc, Bool, true, false, cond, List, [], ◌∷◌, length, map, Option, Some, refl}
+use Rattle.std.specs.Prelude.{◌≡◌, ◌≢◌, ◌≤◌, ◌+◌, ◌++◌, ◌⊎◌, ℕ, suc, Bool, true, false, cond, List, [], ◌∷◌, length, map, Option, Some, unwrap_or, refl}
 use Rattle.std.specs.Option.{option_to_list}
-use Rattle.std.proofs.Common.{◌∙◌, ap, sym, subst₂, inl, inr, ⊎_elim, arith, append_assoc, append-nil}
+use Rattle.std.proofs.Common.{◌∙◌, ap, sym, subst, subst₂, inl, inr, ⊎_elim, arith, append_assoc, append-nil}
 use Rattle.std.proofs.lemmas.Bool.{cases_lt}
 use Rattle.std.proofs.lemmas.List.Sums.{sum_by-append}
 use Rattle.std.proofs.lemmas.Option.{none-some}
 use Rattle.aw_lists.specs.Faults.{Rose}
+use Rattle.aw_schema.specs.declared.definition.Def.{Def}
 use Rattle.aw_codec.specs.declared.record.Decoded.{Decoded}
 use Rattle.aw_codec.specs.declared.record.Decoded.TheVariants.{Definitions, Commit}
 use Rattle.mv_core.specs.declared.entry.Entry.{Entry}
 use Rattle.mv_core.specs.declared.entry.Reply.{Reply}
-use Rattle.mv_core.specs.declared.entry.Reply.TheVariants.{Attached, Acquired, Committed, Owned, Newer, Stranger, Worn, Fault, NoMemory}
+use Rattle.mv_core.specs.declared.entry.Reply.TheVariants.{Attached, Acquired, Resynced, Committed, Released, Detached, Owned, Newer, Stranger, Worn, TooLarge, Fault, NoMemory}
 use Rattle.mv_core.specs.SharedStep.{writes}
 use Rattle.aw_journal.specs.Passed.{Passed}
 use Rattle.aw_store.specs.Images.{HoldsRecords, LeftRecords}
-use Rattle.aw_store.specs.Replay.{names_of}
+use Rattle.aw_store.specs.Replay.{definitions_of}
 use Rattle.aw_store.specs.Stores.{StoreState, record_of, Answers, Acts}
 use Rattle.ses_step.specs.declared.answer.Answer.{Answer}
 use Rattle.ses_step.specs.declared.line.Command.{Command}
+use Rattle.ses_step.specs.declared.session.Begun.{Begun}
 use Rattle.ses_step.specs.declared.session.Begun.TheVariants.{Said, Ask}
 use Rattle.ses_step.specs.declared.session.Known.{Known}
-use Rattle.ses_step.specs.Sessions.{begun, finished}
+use Rattle.ses_step.specs.Sessions.{Sees, Allows, begun, finished, finished_by, asked_in}
 use Rattle.script_world.specs.Faults.{has_faulted}
 use Rattle.script_world.specs.Outcomes.{Outcome, Attempt, as_done, attempts_of}
 use Rattle.script_world.specs.Running.{Tells}
@@ -30,8 +32,10 @@ use Rattle.script_meaning.specs.Language.{ObjectsDisk}
 use Rattle.script_meaning.specs.SameRecords.{SameRecords}
 use Rattle.script_meaning.specs.StoreRuns.{store_disk}
 use Rattle.script_meaning.specs.Turns.{Turn, turn_from, replied}
-use Rattle.script_meaning.proofs.Acting.{act_steps, act_fares}
-use Rattle.script_play.specs.Turning.{machine, FewFaults, Later, Moves, Asked, Replied, ReplyWants, Turned, TurnTakes, TurnWants}
+use Rattle.ses_step.proofs.callers.Keeping.{sees-begun, sees-finished}
+use Rattle.script_meaning.proofs.callers.Acting.{act_steps, act_fares}
+use Rattle.script_play.specs.StoreWorlds.{definitions_in}
+use Rattle.script_play.specs.Turning.{machine, IsOpen, FewFaults, Later, Moves, Asked, Replied, ReplyWants, Turned, TurnTakes, TurnWants}
 
 -- ---- faults
 
@@ -49,39 +53,47 @@ few-done false before now later = inl (omega (arith, later))
 few-act : (asked : Entry) (reply : Reply) (before now : ℕ) → before ≤ now → (reply ≡ Fault → Rose before now) → FewFaults (outcomes_told asked reply) before now
 few-act asked Fault before now later cause = rose-one before now (cause refl)
 few-act asked (Attached fresh) before now later cause = few-done (writes asked (Attached fresh)) before now later
-few-act asked Acquired before now later cause = few-done (writes asked Acquired) before now later
+few-act asked (Acquired fresh) before now later cause = few-done (writes asked (Acquired fresh)) before now later
+few-act asked (Resynced fresh) before now later cause = few-done (writes asked (Resynced fresh)) before now later
 few-act asked Committed before now later cause = few-done (writes asked Committed) before now later
+few-act asked Released before now later cause = few-done (writes asked Released) before now later
+few-act asked Detached before now later cause = few-done (writes asked Detached) before now later
 few-act asked (Owned object by) before now later cause = few-done (writes asked (Owned object by)) before now later
 few-act asked (Newer object number) before now later cause = few-done (writes asked (Newer object number)) before now later
 few-act asked (Stranger object) before now later cause = few-done (writes asked (Stranger object)) before now later
 few-act asked (Worn object) before now later cause = few-done (writes asked (Worn object)) before now later
+few-act asked (TooLarge bytes) before now later cause = few-done (writes asked (TooLarge bytes)) before now later
 few-act asked NoMemory before now later cause = few-done (writes asked NoMemory) before now later
 
 pub few-append : (first second : List Outcome) (before middle now : ℕ) → middle ≤ now → FewFaults first before middle → FewFaults second middle now → FewFaults (first ++ second) before now
 few-append first second before middle now later one two =
     ⊎_elim (λ few. ⊎_elim (λ more. let it : FewFaults (first ++ second) before now = inl (omega (arith, few, more, sum_by-append (λ (outcome : Outcome). cond (has_faulted outcome) 1 0) first second)) in it) (λ last. inr last) two) (λ last. inr (omega (arith, last, later))) one
 
--- ---- names
+-- ---- definitions
 
-names-longer : (records : List Decoded) (r : Decoded) (names : List (List ℕ)) → names_of records ≡ Some names → names_of (records ++ r ∷ []) ≡ Some names
-names-longer [] r names is = absurd (none-some names is)
-names-longer (Definitions those ∷ records) r names is = is
-names-longer (Commit changes ∷ records) r names is = is
+defined-longer : (records : List Decoded) (r : Decoded) (definitions : List Def) → definitions_of records ≡ Some definitions → definitions_of (records ++ r ∷ []) ≡ Some definitions
+defined-longer [] r definitions is = absurd (none-some definitions is)
+defined-longer (Definitions those ∷ records) r definitions is = is
+defined-longer (Commit changes ∷ records) r definitions is = is
 
-module _ {D : Type 0} (old new : StoreState D) (names : List (List ℕ)) (is : names_of old.records ≡ Some names) where
-  answered-open : (asked : Entry) (reply : Reply) → Answers asked reply old new → names_of new.records ≡ Some names
+module _ {D : Type 0} (old new : StoreState D) (definitions : List Def) (is : definitions_of old.records ≡ Some definitions) where
+  answered-open : (asked : Entry) (reply : Reply) → Answers asked reply old new → definitions_of new.records ≡ Some definitions
   answered-open asked reply it = by_test (writes asked reply) refl
     where
-      by_test : (writing : Bool) → writes asked reply ≡ writing → names_of new.records ≡ Some names
-      by_test true writing = ap names_of (it.written writing).records ∙ names-longer old.records (record_of asked) names is
-      by_test false writing = ap (λ (store : StoreState D). names_of store.records) (it.unwritten writing) ∙ is
+      by_test : (writing : Bool) → writes asked reply ≡ writing → definitions_of new.records ≡ Some definitions
+      by_test true writing = ap definitions_of (it.written writing).records ∙ defined-longer old.records (record_of asked) definitions is
+      by_test false writing = ap (λ (store : StoreState D). definitions_of store.records) (it.unwritten writing) ∙ is
 
-  act-open : (asked : Entry) (reply : Reply) → Acts asked reply old new → names_of new.records ≡ Some names
-  act-open asked NoMemory acts = ap (λ (store : StoreState D). names_of store.records) acts ∙ is
-  act-open asked Fault acts = ap names_of acts.doubts.records ∙ is
+  act-open : (asked : Entry) (reply : Reply) → Acts asked reply old new → definitions_of new.records ≡ Some definitions
+  act-open asked NoMemory acts = ap (λ (store : StoreState D). definitions_of store.records) acts.1 ∙ is
+  act-open asked (TooLarge bytes) acts = ap (λ (store : StoreState D). definitions_of store.records) acts.same ∙ is
+  act-open asked Fault acts = ap definitions_of acts.doubts.records ∙ is
   act-open asked (Attached fresh) acts = answered-open asked (Attached fresh) acts
-  act-open asked Acquired acts = answered-open asked Acquired acts
+  act-open asked (Acquired fresh) acts = answered-open asked (Acquired fresh) acts
+  act-open asked (Resynced fresh) acts = answered-open asked (Resynced fresh) acts
   act-open asked Committed acts = answered-open asked Committed acts
+  act-open asked Released acts = answered-open asked Released acts
+  act-open asked Detached acts = answered-open asked Detached acts
   act-open asked (Owned object by) acts = answered-open asked (Owned object by) acts
   act-open asked (Newer object number) acts = answered-open asked (Newer object number) acts
   act-open asked (Stranger object) acts = answered-open asked (Stranger object) acts
@@ -90,6 +102,11 @@ module _ {D : Type 0} (old new : StoreState D) (names : List (List ℕ)) (is : n
 length-ended : (attempted : Decoded) (outcomes : List Outcome) → length (attempts_ended attempted outcomes) ≡ length outcomes
 length-ended attempted [] = refl
 length-ended attempted (outcome ∷ outcomes) = ap suc (length-ended attempted outcomes)
+
+-- a session that asks sees what it saw
+pub begun-sees : (definitions : List Def) (command : Command) (asked : Entry) (before between : Known) → (Ask asked, between) ≡ begun definitions before command → Sees definitions before → Sees definitions between
+begun-sees definitions command asked before between begins sees =
+    subst (λ (those : Begun × Known). Sees definitions those.1) (sym begins) (sees-begun definitions before command sees)
 
 module _ {D : Type 0} (faults clock : D → ℕ) (crash : D → ℕ → List ℕ → Type 0) where
   -- ---- time
@@ -120,7 +137,7 @@ module _ {D : Type 0} (faults clock : D → ℕ) (crash : D → ℕ → List ℕ
         subst₂ P (sym (append-nil made)) (sym (append-nil ends)) fares;
     few = few-none (faults store.disk) (faults store.disk) (omega arith);
     later = later-same store.disk;
-    keeps_open = λ names is. is;
+    keeps_open = λ definitions is. is;
   }
 
   pub moves-then : (told more_told : List Outcome) (made_first made_next : List (Attempt Decoded)) (first second third : StoreState D) → Moves faults clock crash told made_first first second → Moves faults clock crash more_told made_next second third → Moves faults clock crash (told ++ more_told) (made_first ++ made_next) first third
@@ -131,7 +148,7 @@ module _ {D : Type 0} (faults clock : D → ℕ) (crash : D → ℕ → List ℕ
         subst₂ P (append_assoc made made_first made_next) (append_assoc ends one.more_ends two.more_ends) (two.fares opened (made ++ made_first) (ends ++ one.more_ends) start (one.fares opened made ends start fares));
     few = few-append told more_told (faults first.disk) (faults second.disk) (faults third.disk) two.later.faults_later one.few two.few;
     later = later-then first.disk second.disk third.disk one.later two.later;
-    keeps_open = λ names is. two.keeps_open names (one.keeps_open names is);
+    keeps_open = λ definitions is. two.keeps_open definitions (one.keeps_open definitions is);
   }
 
   -- ---- an entry
@@ -146,7 +163,7 @@ module _ {D : Type 0} (faults clock : D → ℕ) (crash : D → ℕ → List ℕ
       fares = λ opened made ends start fares. act_fares clock crash opened made ends start old new fares asked reply (record { moments = moments; images = images }) acts;
       few = few-act asked reply (faults old.disk) (faults new.disk) later cause;
       later = later-passed old.disk new.disk _ moments later;
-      keeps_open = λ names is. act-open old new names is asked reply acts;
+      keeps_open = λ definitions is. act-open old new definitions is asked reply acts;
     };
     step = λ next opened tried tells. act_steps next opened tried asked old new reply wants acts tells;
   }
@@ -154,7 +171,7 @@ module _ {D : Type 0} (faults clock : D → ℕ) (crash : D → ℕ → List ℕ
   -- ---- a command
 
   -- a command that the session answers alone
-  pub said_turned : (definitions names : List (List ℕ)) (command : Command) (answer : Answer) (before after : Known) (store : StoreState D) → (Said answer, after) ≡ begun definitions before command → Turned faults clock crash definitions names command answer before after store store
+  pub said_turned : (definitions : List Def) (names : List (List ℕ)) (command : Command) (answer : Answer) (before after : Known) (store : StoreState D) → (Said answer, after) ≡ begun definitions before command → Turned faults clock crash definitions names command answer before after store store
   said_turned definitions names command answer before after store said = record {
     told = [];
     more = [];
@@ -163,16 +180,32 @@ module _ {D : Type 0} (faults clock : D → ℕ) (crash : D → ℕ → List ℕ
     turns = λ next opened tried tells.
         ap (turn_from (machine next) definitions names (store_disk opened tried store)) (sym said)
         ∙ ap (λ those. let it : Turn ObjectsDisk = record { answer = answer; session = after; shared = store_disk opened those store } in it) (sym (append-nil tried));
+    keeps_seen = λ sees. subst (λ (those : Begun × Known). Sees definitions those.1) (sym said) (sees-begun definitions before command sees);
   }
 
-  asked-turn : (definitions names : List (List ℕ)) (command : Command) (asked : Entry) (reply : Reply) (before between : Known) (old new : StoreState D) → (Ask asked, between) ≡ begun definitions before command → (asks : Asked faults clock crash asked reply old new) → (next : ℕ → Outcome) (opened : Option Decoded) (tried : List (Attempt Decoded)) → Tells next (length tried) asks.told →
+  asked-turn : (definitions : List Def) (names : List (List ℕ)) (command : Command) (asked : Entry) (reply : Reply) (before between : Known) (old new : StoreState D) → (Ask asked, between) ≡ begun definitions before command → (asks : Asked faults clock crash asked reply old new) → (next : ℕ → Outcome) (opened : Option Decoded) (tried : List (Attempt Decoded)) → Tells next (length tried) asks.told →
       turn_from (machine next) definitions names (store_disk opened tried old) (begun definitions before command) ≡ record { answer = (finished definitions names between asked reply).0; session = (finished definitions names between asked reply).1; shared = store_disk opened (tried ++ asks.more) new }
   asked-turn definitions names command asked reply before between old new begins asks next opened tried tells =
       ap (turn_from (machine next) definitions names (store_disk opened tried old)) (sym begins)
       ∙ ap (replied (machine next) definitions names between asked) (asks.step next opened tried tells)
 
+  -- an entry that the session answers by its reply
+  pub replied_so : (names : List (List ℕ)) (asked : Entry) (reply : Reply) (answer : Answer) (waits : List ℕ) (before after : Known) (old new : StoreState D) → IsOpen old → Asked faults clock crash asked reply old new → waits ≡ asked_in asked → Allows (definitions_in old) before reply → (answer, after) ≡ finished_by (definitions_in new) names before waits reply → Replied faults clock crash (definitions_in old) names asked answer before after old new
+  replied_so names asked reply answer waits before after old new open_is asks same allows finishes = record {
+    reply = reply;
+    asks = asks;
+    finishes = is ∙ ap (λ those. finished_by (definitions_in old) names before those reply) same;
+    keeps_seen = λ sees. subst (λ (those : Answer × Known). Sees (definitions_in old) those.1) (sym is) (sees-finished (definitions_in old) names before waits reply sees allows);
+  }
+    where
+      kept : definitions_in new ≡ definitions_in old
+      kept = ap (λ (found : Option (List Def)). unwrap_or found []) (asks.moves.keeps_open open_is.0 open_is.1 ∙ sym open_is.1)
+
+      is : (answer, after) ≡ finished_by (definitions_in old) names before waits reply
+      is = finishes ∙ ap (λ (definitions : List Def). finished_by definitions names before waits reply) kept
+
   -- a command that asks the store
-  pub replied_turned : (definitions names : List (List ℕ)) (command : Command) (asked : Entry) (answer : Answer) (before between after : Known) (old new : StoreState D) → (Ask asked, between) ≡ begun definitions before command → Replied faults clock crash definitions names asked answer between after old new → Turned faults clock crash definitions names command answer before after old new
+  pub replied_turned : (definitions : List Def) (names : List (List ℕ)) (command : Command) (asked : Entry) (answer : Answer) (before between after : Known) (old new : StoreState D) → (Ask asked, between) ≡ begun definitions before command → Replied faults clock crash definitions names asked answer between after old new → Turned faults clock crash definitions names command answer before after old new
   replied_turned definitions names command asked answer before between after old new begins replied = record {
     told = replied.asks.told;
     more = replied.asks.more;
@@ -181,9 +214,10 @@ module _ {D : Type 0} (faults clock : D → ℕ) (crash : D → ℕ → List ℕ
     turns = λ next opened tried tells.
         asked-turn definitions names command asked replied.reply before between old new begins replied.asks next opened tried tells
         ∙ ap (λ those. let it : Turn ObjectsDisk = record { answer = those.0; session = those.1; shared = store_disk opened (tried ++ replied.asks.more) new } in it) (sym replied.finishes);
+    keeps_seen = λ sees. replied.keeps_seen (begun-sees definitions command asked before between begins sees);
   }
 
-  pub asked_takes : (definitions names : List (List ℕ)) (command : Command) (asked : Entry) (reply : Reply) (before between : Known) (old new : StoreState D) → (Ask asked, between) ≡ begun definitions before command → Asked faults clock crash asked reply old new → TurnTakes faults clock crash definitions names command before old new
+  pub asked_takes : (definitions : List Def) (names : List (List ℕ)) (command : Command) (asked : Entry) (reply : Reply) (before between : Known) (old new : StoreState D) → (Ask asked, between) ≡ begun definitions before command → Asked faults clock crash asked reply old new → TurnTakes faults clock crash definitions names command before old new
   asked_takes definitions names command asked reply before between old new begins asks = record {
     told = asks.told;
     more = asks.more;
@@ -194,6 +228,6 @@ module _ {D : Type 0} (faults clock : D → ℕ) (crash : D → ℕ → List ℕ
   }
 
   -- for want of memory there is no answer by the reply
-  pub asked_wants : (definitions names : List (List ℕ)) (command : Command) (asked : Entry) (before between : Known) (old new : StoreState D) → (Ask asked, between) ≡ begun definitions before command → ReplyWants faults clock crash asked old new → TurnWants faults clock crash definitions names command before old new
+  pub asked_wants : (definitions : List Def) (names : List (List ℕ)) (command : Command) (asked : Entry) (before between : Known) (old new : StoreState D) → (Ask asked, between) ≡ begun definitions before command → ReplyWants faults clock crash asked old new → TurnWants faults clock crash definitions names command before old new
   asked_wants definitions names command asked before between old new begins wants =
       ⊎_elim inl (λ replied. inr (asked_takes definitions names command asked replied.0 before between old new begins replied.1)) wants

@@ -3,7 +3,8 @@ use Rattle.std.specs.Prelude.{◌≡◌, ◌++◌, ◌⊎◌, ℕ, Bool, true, f
 use Rattle.aw_lists.specs.Faults.{Rose}
 use Rattle.aw_io.specs.Known.{Grows, GrowsByFront}
 use Rattle.aw_codec.specs.declared.record.Decoded.{Decoded}
-use Rattle.aw_store.specs.Replay.{names_of}
+use Rattle.aw_schema.specs.declared.definition.Def.{Def}
+use Rattle.aw_store.specs.Replay.{definitions_of}
 use Rattle.aw_store.specs.Stores.{StoreState}
 use Rattle.ses_step.specs.Answers.{answer_line, is_refusal}
 use Rattle.script_world.specs.Outcomes.{Outcome, faulted, Attempt, all_attempts, attempts_of}
@@ -40,7 +41,7 @@ WritesSo response (Err NoMemory) before now = GrowsByFront before now (answer_li
 WritesSo response (Err DiskFault) before now = ⊥
 
 -- a session's line closes the definitions, and so does the end of a script with any
-abbrev pub ClosesWith : List (List ℕ) → Event → Type 0
+abbrev pub ClosesWith : List Def → Event → Type 0
 ClosesWith definitions (line text) = IsOfSession text
 ClosesWith definitions block_ends = ⊥
 ClosesWith definitions script_ends = is_any definitions ≡ true
@@ -117,10 +118,10 @@ module _ {D : Type 0} (faults clock : D → ℕ) (crash : D → ℕ → List ℕ
       pub text : List ℕ
       pub refused : Bool
       pub w : StoreWorld (StoreState D)
-      pub closes : ClosesWith w.definitions next
-      pub unopened : names_of w.store.records ≡ None
+      pub closes : ClosesWith w.drafted next
+      pub unopened : definitions_of w.store.records ≡ None
       pub run : StoreRun [] records events [] None [] text refused (world_of w)
-      pub stands : Stands [] (defining w.definitions faulted ∷ []) store
+      pub stands : Stands [] (defining w.drafted faulted ∷ []) store
       pub rose : Rose (faults at) (faults store.disk)
       pub written : Grows before now text
 

@@ -1,9 +1,11 @@
 -- The world that the program keeps: a store stands in it from the beginning, and is the shared state once it has definitions.
-use Rattle.std.specs.Prelude.{◌≡◌, ◌&&◌, ◌++◌, ℕ, min, Bool, true, false, List, [], ◌∷◌, length, map, nat_lt, slice_index_or, Option, None, Some, is_none, unwrap_or, if◌then◌else◌}
+use Rattle.std.specs.Prelude.{◌≡◌, ◌≤◌, ◌&&◌, ◌++◌, ℕ, min, Bool, true, false, List, [], ◌∷◌, length, map, nat_lt, slice_index_or, Option, None, Some, is_none, unwrap_or, if◌then◌else◌, IsTrue}
+use Rattle.std.specs.List.{list_all}
 use Rattle.std.specs.Option.{option_map}
-use Rattle.aw_codec.specs.Records.{AreDefinable}
+use Rattle.aw_cell.specs.Names.{is_name}
+use Rattle.aw_schema.specs.declared.definition.Def.{Def}
 use Rattle.aw_codec.specs.declared.record.Decoded.{Decoded}
-use Rattle.aw_store.specs.Replay.{names_of}
+use Rattle.aw_store.specs.Replay.{definitions_of}
 use Rattle.aw_store.specs.Stores.{StoreState}
 use Rattle.ses_report.specs.Refusals.{no_form}
 use Rattle.ses_step.specs.declared.answer.Answer.TheVariants.{Refused}
@@ -11,17 +13,21 @@ use Rattle.ses_step.specs.Answers.{answer_of}
 use Rattle.ses_step.specs.Words.{place_of}
 use Rattle.ses_step.specs.declared.session.Known.{Known}
 use Rattle.ses_step.specs.declared.session.Session.{Session}
-use Rattle.ses_step.specs.Sessions.{new_session, resting}
+use Rattle.ses_step.specs.Sessions.{new_session, resting, Sees}
 use Rattle.script_world.specs.Worlds.{World, with_shared, Answered, silent, answered_so, no_session}
 use Rattle.script_world.specs.Outcomes.{Attempt}
-use Rattle.script_meaning.specs.Language.{language, ObjectsWorld}
+use Rattle.script_meaning.specs.Language.{language, integer, can_define, ObjectsWorld}
 use Rattle.script_meaning.specs.StoreRuns.{store_disk}
 use Rattle.script_play.specs.declared.world.StoreWorld.{StoreWorld}
 use Rattle.script_play.specs.declared.response.Response.{Response}
 
 -- the store, once it has definitions
 abbrev pub open_store : {D : Type 0} → StoreState D → Option (StoreState D)
-open_store {D} store = option_map (λ (names : List (List ℕ)). store) (names_of store.records)
+open_store {D} store = option_map (λ (definitions : List Def). store) (definitions_of store.records)
+
+-- its definitions, which are none before
+abbrev pub definitions_in : {D : Type 0} → StoreState D → List Def
+definitions_in store = unwrap_or (definitions_of store.records) []
 
 -- what the sessions know, none of which waits between two lines
 abbrev pub known_by : List Session → List Known
@@ -31,9 +37,16 @@ known_by sessions = map (λ (session : Session). session.known) sessions
 abbrev pub own_known : {D : Type 0} → StoreWorld (StoreState D) → ℕ → Known
 own_known w who = (slice_index_or w.sessions who (resting (new_session who))).known
 
--- no definition is open behind a line, since each is one line
+-- the definitions are those that the script drafted, until the store has definitions; no one of them is open behind a line,
+-- since each is one line
 abbrev pub world_of : {D : Type 0} → StoreWorld (StoreState D) → World language (StoreState D)
-world_of w = record { definitions = w.definitions; open_lines = []; shared = open_store w.store; names = w.names; sessions = known_by w.sessions }
+world_of w = record {
+  definitions = unwrap_or (definitions_of w.store.records) w.drafted;
+  open_lines = [];
+  shared = open_store w.store;
+  names = w.names;
+  sessions = known_by w.sessions;
+}
 
 -- the same over the machine on a disk, in a run that wrote this record of definitions and made these attempts of commits
 abbrev pub on_machine : {D : Type 0} → Option Decoded → List (Attempt Decoded) → StoreWorld (StoreState D) → ObjectsWorld
@@ -41,14 +54,27 @@ on_machine opened tried w = with_shared (store_disk opened tried) (world_of w)
 
 -- nothing was attempted before there were definitions
 abbrev pub IsMade : {D : Type 0} → Option Decoded → List (Attempt Decoded) → StoreState D → Type 0
-IsMade opened tried store = names_of store.records ≡ None → (opened ≡ None) × (tried ≡ [])
+IsMade opened tried store = definitions_of store.records ≡ None → (opened ≡ None) × (tried ≡ [])
 
--- while nothing is open the definitions can be written, and no session has appeared
+-- what a script can define: INTEGER variables without dimensions, as many as there may be
+pub record AreIntegers (definitions : List Def) : Type 0 where
+  pub names : List (List ℕ)
+  pub are : definitions ≡ map integer names
+  pub named : IsTrue (list_all is_name names)
+  pub few : length names ≤ 4096
+
+-- each of these sessions sees these definitions
+abbrev pub AllSee : List Def → List Session → Type 0
+AllSee definitions [] = Unit {0}
+AllSee definitions (session ∷ sessions) = Sees definitions session.known × AllSee definitions sessions
+
+-- each session sees the store's definitions; while there are none, what was drafted can be written, and no session has appeared
 pub record IsSound {D : Type 0} (w : StoreWorld (StoreState D)) : Type 0 where
   pub paired : length w.sessions ≡ min (length w.names) 64
-  pub defined : names_of w.store.records ≡ None → AreDefinable w.definitions
-  pub unnamed : names_of w.store.records ≡ None → w.names ≡ []
-  pub no_sessions : names_of w.store.records ≡ None → w.sessions ≡ []
+  pub seen : AllSee (definitions_in w.store) w.sessions
+  pub writable : definitions_of w.store.records ≡ None → AreIntegers w.drafted
+  pub unnamed : definitions_of w.store.records ≡ None → w.names ≡ []
+  pub no_sessions : definitions_of w.store.records ≡ None → w.sessions ≡ []
 
 -- ---- responses
 
@@ -62,12 +88,12 @@ refused_response prefix = record { prefix = prefix; answer = Refused no_form }
 
 -- ---- a definition
 
--- a name can be defined once, before the definitions are closed, and 4,096 times in all
+-- a name can be defined before the definitions are closed, where the catalogue accepts it
 abbrev pub can_join : {D : Type 0} → StoreWorld (StoreState D) → List ℕ → Bool
-can_join w name = is_none (names_of w.store.records) && nat_lt (length w.definitions) 4096 && is_none (place_of w.definitions name)
+can_join w name = is_none (definitions_of w.store.records) && can_define w.drafted name
 
 abbrev pub JoinsSo : {D : Type 0} → List ℕ → Option Response → StoreWorld (StoreState D) → StoreWorld (StoreState D) → Type 0
-JoinsSo name None old new = (can_join old name ≡ true) × (new ≡ record old { definitions = old.definitions ++ name ∷ [] })
+JoinsSo name None old new = (can_join old name ≡ true) × (new ≡ record old { drafted = old.drafted ++ integer name ∷ [] })
 JoinsSo name (Some response) old new = (can_join old name ≡ false) × (response ≡ refused_response no_session) × (new ≡ old)
 
 -- ---- a session's first line

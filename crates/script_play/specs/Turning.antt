@@ -3,13 +3,14 @@ use Rattle.std.specs.Prelude.{◌≡◌, ◌≢◌, ◌≤◌, ◌<◌, ◌+◌,
 use Rattle.std.specs.List.{count_by}
 use Rattle.aw_lists.specs.Faults.{Rose}
 use Rattle.aw_cell.specs.Names.{is_name}
+use Rattle.aw_schema.specs.declared.definition.Def.{Def}
+use Rattle.aw_body.specs.KeptBodies.{bodies_of}
 use Rattle.aw_codec.specs.declared.record.Decoded.{Decoded}
 use Rattle.aw_codec.specs.declared.record.Decoded.TheVariants.{Definitions}
 use Rattle.mv_core.specs.declared.entry.Entry.{Entry}
 use Rattle.mv_core.specs.declared.entry.Reply.{Reply}
-use Rattle.mv_core.specs.Integers.{integers}
-use Rattle.mv_core.specs.Workspace.{standing, opened as just_opened}
-use Rattle.aw_store.specs.Replay.{names_of}
+use Rattle.mv_core.specs.Workspace.{table_of, opened as just_opened}
+use Rattle.aw_store.specs.Replay.{definitions_of}
 use Rattle.aw_store.specs.Stores.{StoreState}
 use Rattle.ses_step.specs.declared.answer.Answer.{Answer}
 use Rattle.ses_step.specs.declared.line.Command.{Command}
@@ -18,7 +19,7 @@ use Rattle.ses_step.specs.declared.line.Line.TheVariants as line
 use Rattle.ses_step.specs.declared.session.Known.{Known}
 use Rattle.ses_step.specs.declared.session.Session.{Session}
 use Rattle.ses_step.specs.Lines.{line_form}
-use Rattle.ses_step.specs.Sessions.{finished}
+use Rattle.ses_step.specs.Sessions.{Sees, finished}
 use Rattle.script_world.specs.Faults.{has_faulted}
 use Rattle.script_world.specs.Outcomes.{Outcome, done, faulted, Attempt, on_disk, all_attempts, attempts_of}
 use Rattle.script_world.specs.Running.{Tells}
@@ -33,19 +34,19 @@ use Rattle.script_play.specs.declared.world.StoreWorld.{StoreWorld}
 use Rattle.script_play.specs.declared.stop.Stop.{Stop}
 use Rattle.script_play.specs.declared.stop.Stop.TheVariants.{SinkFault, DiskFault, NoMemory}
 use Rattle.script_play.specs.declared.response.Response.{Response}
-use Rattle.script_play.specs.StoreWorlds.{own_known, on_machine, IsMade, IsSound, answered_by}
+use Rattle.script_play.specs.StoreWorlds.{definitions_in, own_known, on_machine, IsMade, IsSound, answered_by}
 
 -- a count of faults rose by as many as these are faults, or stands at its last value
 abbrev pub FewFaults : List Outcome → ℕ → ℕ → Type 0
 FewFaults told before now = (count_by has_faulted told + before ≤ now) ⊎ (18446744073709551615 ≤ now)
 
 -- an attempt to write these definitions
-abbrev pub defining : List (List ℕ) → Outcome → Attempt Decoded
-defining names outcome = record { attempted = Definitions names; outcome = outcome }
+abbrev pub defining : List Def → Outcome → Attempt Decoded
+defining definitions outcome = record { attempted = Definitions definitions; outcome = outcome }
 
 -- the store has definitions
 abbrev pub IsOpen : {D : Type 0} → StoreState D → Type 0
-IsOpen store = (names : List (List ℕ)) × (names_of store.records ≡ Some names)
+IsOpen store = (definitions : List Def) × (definitions_of store.records ≡ Some definitions)
 
 -- what a line defines is a name
 abbrev pub DefinesName : Line → Type 0
@@ -107,7 +108,7 @@ module _ {D : Type 0} (faults clock : D → ℕ) (crash : D → ℕ → List ℕ
     pub fares : (opened_with : List Decoded) (made : List (Attempt Decoded)) (ends : List ℕ) (start : ℕ) → StoreFares SameRecords clock crash opened_with made ends start old → StoreFares SameRecords clock crash opened_with (made ++ more) (ends ++ more_ends) start new
     pub few : FewFaults told (faults old.disk) (faults new.disk)
     pub later : Later old.disk new.disk
-    pub keeps_open : (names : List (List ℕ)) → names_of old.records ≡ Some names → names_of new.records ≡ Some names
+    pub keeps_open : (definitions : List Def) → definitions_of old.records ≡ Some definitions → definitions_of new.records ≡ Some definitions
 
   -- ---- a command of a session
 
@@ -120,38 +121,40 @@ module _ {D : Type 0} (faults clock : D → ℕ) (crash : D → ℕ → List ℕ
     pub step : (next : ℕ → Outcome) (opened : Option Decoded) (tried : List (Attempt Decoded)) → Tells next (length tried) told → (machine next).step (store_disk opened tried old) asked ≡ (reply, store_disk opened (tried ++ more) new)
 
   -- an entry and the answer by its reply
-  pub record Replied (definitions names : List (List ℕ)) (asked : Entry) (answer : Answer) (before after : Known) (old new : StoreState D) : Type 0 where
+  pub record Replied (definitions : List Def) (names : List (List ℕ)) (asked : Entry) (answer : Answer) (before after : Known) (old new : StoreState D) : Type 0 where
     pub reply : Reply
     pub asks : Asked asked reply old new
     pub finishes : (answer, after) ≡ finished definitions names before asked reply
+    pub keeps_seen : Sees definitions before → Sees definitions after
 
   -- for want of memory an entry has no answer: it did nothing, or was replied to
   abbrev pub ReplyWants : Entry → StoreState D → StoreState D → Type 0
   ReplyWants asked old new = (new ≡ old) ⊎ ((reply : Reply) × Asked asked reply old new)
 
   -- a command, answered by a turn of the machine
-  pub record Turned (definitions names : List (List ℕ)) (command : Command) (answer : Answer) (before after : Known) (old new : StoreState D) : Type 0 where
+  pub record Turned (definitions : List Def) (names : List (List ℕ)) (command : Command) (answer : Answer) (before after : Known) (old new : StoreState D) : Type 0 where
     pub told : List Outcome
     pub more : List (Attempt Decoded)
     pub as_many : length more ≡ length told
     pub moves : Moves told more old new
     pub turns : (next : ℕ → Outcome) (opened : Option Decoded) (tried : List (Attempt Decoded)) → Tells next (length tried) told → turn (machine next) definitions names (store_disk opened tried old) before command ≡ record { answer = answer; session = after; shared = store_disk opened (tried ++ more) new }
+    pub keeps_seen : Sees definitions before → Sees definitions after
 
   -- a command that was taken up, and made its attempts
-  pub record TurnTakes (definitions names : List (List ℕ)) (command : Command) (before : Known) (old new : StoreState D) : Type 0 where
+  pub record TurnTakes (definitions : List Def) (names : List (List ℕ)) (command : Command) (before : Known) (old new : StoreState D) : Type 0 where
     pub told : List Outcome
     pub more : List (Attempt Decoded)
     pub as_many : length more ≡ length told
     pub moves : Moves told more old new
     pub made_so : (next : ℕ → Outcome) (opened : Option Decoded) (tried : List (Attempt Decoded)) → Tells next (length tried) told → attempts_of (Some (turn (machine next) definitions names (store_disk opened tried old) before command).shared) ≡ all_attempts opened tried ++ more
 
-  abbrev pub TurnWants : List (List ℕ) → List (List ℕ) → Command → Known → StoreState D → StoreState D → Type 0
+  abbrev pub TurnWants : List Def → List (List ℕ) → Command → Known → StoreState D → StoreState D → Type 0
   TurnWants definitions names command before old new = (new ≡ old) ⊎ TurnTakes definitions names command before old new
 
   -- a command of the session at a place
   pub record TurnsAt (command : Command) (answer : Answer) (who : ℕ) (old new : StoreWorld (StoreState D)) : Type 0 where
     pub after : Session
-    pub turned : Turned old.definitions old.names command answer (own_known old who) after.known old.store new.store
+    pub turned : Turned (definitions_in old.store) old.names command answer (own_known old who) after.known old.store new.store
     pub rest : new ≡ record old { store = new.store; sessions = slice_set old.sessions who after }
 
   -- ---- a line
@@ -191,36 +194,37 @@ module _ {D : Type 0} (faults clock : D → ℕ) (crash : D → ℕ → List ℕ
 
   -- the definitions were written
   pub record Opens (old new : StoreWorld (StoreState D)) : Type 0 where
-    pub unopened : names_of old.store.records ≡ None
-    pub moves : Moves [] (defining old.definitions done ∷ []) old.store new.store
-    pub names : names_of new.store.records ≡ Some old.definitions
-    pub objects : new.store.objects ≡ standing integers (just_opened (length old.definitions))
-    pub rest : new ≡ record old { store = new.store }
+    pub unopened : definitions_of old.store.records ≡ None
+    pub moves : Moves [] (defining old.drafted done ∷ []) old.store new.store
+    pub defined : definitions_of new.store.records ≡ Some old.drafted
+    pub table : new.store.table ≡ table_of (bodies_of old.drafted) (just_opened old.drafted)
+    pub rest : new ≡ record old { drafted = []; store = new.store }
 
   -- the disk failed while the definitions were written
   pub record FailsToOpen (old new : StoreWorld (StoreState D)) : Type 0 where
-    pub unopened : names_of old.store.records ≡ None
-    pub moves : Moves [] (defining old.definitions faulted ∷ []) old.store new.store
+    pub unopened : definitions_of old.store.records ≡ None
+    pub moves : Moves [] (defining old.drafted faulted ∷ []) old.store new.store
     pub rose : Rose (faults old.store.disk) (faults new.store.disk)
 
   abbrev pub OpensSo : Result (Unit {0}) Stop → StoreWorld (StoreState D) → StoreWorld (StoreState D) → Type 0
   OpensSo (Ok nothing) old new = Opens old new
   OpensSo (Err DiskFault) old new = FailsToOpen old new
-  OpensSo (Err NoMemory) old new = new ≡ old
+  OpensSo (Err NoMemory) old new = new.store ≡ old.store
   OpensSo (Err SinkFault) old new = ⊥
 
   -- the definitions are closed, by now or before
   abbrev pub ClosesSo : Result (Unit {0}) Stop → StoreWorld (StoreState D) → StoreWorld (StoreState D) → Type 0
   ClosesSo (Ok nothing) old new = ((new ≡ old) × IsOpen old.store) ⊎ Opens old new
   ClosesSo (Err DiskFault) old new = FailsToOpen old new
-  ClosesSo (Err NoMemory) old new = new ≡ old
+  ClosesSo (Err NoMemory) old new = new.store ≡ old.store
   ClosesSo (Err SinkFault) old new = ⊥
 
   -- the script has ended: what was only defined is written
   abbrev pub FinishesWorldSo : Result (Unit {0}) Stop → StoreWorld (StoreState D) → StoreWorld (StoreState D) → Type 0
-  FinishesWorldSo (Ok nothing) old new = ((new ≡ old) × (IsOpen old.store ⊎ (old.definitions ≡ []))) ⊎ (Opens old new × (old.definitions ≢ []))
-  FinishesWorldSo (Err DiskFault) old new = FailsToOpen old new × (old.definitions ≢ [])
-  FinishesWorldSo (Err NoMemory) old new = new ≡ old
+  FinishesWorldSo (Ok nothing) old new =
+      ((new ≡ old) × (IsOpen old.store ⊎ ((definitions_of old.store.records ≡ None) × (old.drafted ≡ [])))) ⊎ (Opens old new × (old.drafted ≢ []))
+  FinishesWorldSo (Err DiskFault) old new = FailsToOpen old new × (old.drafted ≢ [])
+  FinishesWorldSo (Err NoMemory) old new = new.store ≡ old.store
   FinishesWorldSo (Err SinkFault) old new = ⊥
 
   -- why a line has no answer

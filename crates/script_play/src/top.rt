@@ -1,6 +1,5 @@
-ghost use Rattle.std.specs.Prelude.{◌≡◌, ◌<◌, ◌≤◌, [], IfOk, IfSome, IsSome, length, vec_len, unwrap_or};
+ghost use Rattle.std.specs.Prelude.{◌≡◌, ◌<◌, ◌≤◌, IfOk, IfSome, IsSome, length, vec_len};
 ghost use Rattle.aw_lists.specs.Faults.{Rose};
-ghost use Rattle.aw_store.specs.Replay.{names_of};
 ghost use Rattle.script_disk.specs.Formatted.{AreFormatted};
 ghost use Rattle.script_disk.specs.Opened.{ExplainsContent};
 ghost use Rattle.script_world.specs.Laws.{NoneRefused, SomeRefused};
@@ -15,10 +14,10 @@ use crate::ending::Ending;
 use crate::player::Player;
 use crate::reading::{ending_of, read};
 use crate::world::StoreWorld;
-use aw_cell::Text;
 use aw_disk::Disk;
 use aw_io::{Sink, Source};
 use aw_lists::List;
+use aw_schema::Catalogue;
 use aw_store::Store;
 use core::mem::replace_with;
 use script_disk::open;
@@ -32,33 +31,6 @@ fn buffer(alloc: Global) -> Result<Vec<u8>, AllocError>
     ensures { IfOk result (λ bytes. vec_len bytes ≡ 65536) }
 {
     vec![in alloc; 0; PIECE]
-}
-
-fn listed_names(alloc: Global, listed: &[Text]) -> Result<Names, AllocError>
-    ensures { IfOk result (λ names. names ≡ listed.now) }
-{
-    let mut names = Names::new(alloc);
-    for name in listed {
-        match names.push(*name) {
-            Ok(()) => {}
-            Err(full) => return Err(full),
-        }
-    }
-    Ok(names)
-}
-
-/// The names of the objects of a store in order of definition, which are none where nothing is
-/// defined.
-fn defined_names<D: Disk>(alloc: Global, store: &Store<D>) -> Result<Names, AllocError>
-    ensures { IfOk result (λ names. names ≡ unwrap_or (names_of store.now.records) []) }
-{
-    match store.names() {
-        Some(listed) => match listed_names(alloc, listed.as_slice()) {
-            Ok(names) => Ok(names),
-            Err(full) => Err(full),
-        },
-        None => Ok(Names::new(alloc)),
-    }
 }
 
 /// The script has ended: answers its last line, and writes what was only defined.
@@ -116,15 +88,6 @@ fn play_over<D: Disk, S: Source, K: Sink>(
     ensures source_cause { result.ending ≡ ending.SourceFault → Rose (S.faults script.old) (S.faults script.new) }
     ensures sink_cause { result.ending ≡ ending.SinkFault → Rose (K.faults out.old) (K.faults out.new) }
 {
-    let definitions = match defined_names(alloc, &store) {
-        Ok(definitions) => definitions,
-        Err(_) => {
-            return Ended {
-                ending: Ending::NoMemory,
-                store,
-            };
-        }
-    };
     let mut buffer = match buffer(alloc) {
         Ok(buffer) => buffer,
         Err(_) => {
@@ -135,7 +98,7 @@ fn play_over<D: Disk, S: Source, K: Sink>(
         }
     };
     let world = StoreWorld {
-        definitions,
+        drafted: Catalogue::new(alloc),
         store,
         names: Names::new(alloc),
         sessions: List::new(alloc),

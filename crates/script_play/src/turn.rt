@@ -1,45 +1,85 @@
 ghost use Rattle.std.specs.Prelude.{◌≡◌, IfOk, OnErr};
-ghost use Rattle.ses_step.specs.Sessions.{asked_in};
-ghost use Rattle.script_play.specs.Turning.{Asked, Replied, ReplyWants, Turned, TurnWants};
+ghost use Rattle.ses_step.specs.declared.session.Known.{Known as KnownState};
+ghost use Rattle.ses_step.specs.Sessions as spec;
+ghost use Rattle.ses_step.specs.Sessions.{Sees, Allows, asked_in, asked_by};
+ghost use Rattle.script_play.specs.StoreWorlds.{definitions_in};
+ghost use Rattle.script_play.specs.Turning.{IsOpen, Asked, Replied, ReplyWants, Turned, TurnWants};
 
 use aw_cell::Text;
 use aw_disk::Disk;
 use aw_store::Store;
 use mv_core::{Entry, Reply};
-use ses_step::{Answer, Begun, Command, Names, Session};
+use ses_step::{Answer, Begun, Command, Session};
 use std::alloc::{AllocError, Global};
 
 /// Asks the store. Want of memory leaves it as it was.
 fn ask<D: Disk>(store: &mut Store<D>, entry: &Entry) -> Result<Reply, AllocError>
     ensures ok { IfOk result (λ reply. Asked D.faults D.clock D.crash entry.now reply store.old store.new) }
+    ensures allowed { IfOk result (λ reply. (known : KnownState) → Sees (definitions_in store.old) known → Allows (definitions_in store.old) known reply) }
     ensures err { OnErr result (store.new ≡ store.old) }
 {
+    store.stands();
     match store.act(entry) {
         Reply::NoMemory => Err(AllocError),
         reply => Ok(reply),
     }
 }
 
+/// Begins a command of a session, by the definitions of the store.
+fn begin<D: Disk>(
+    alloc: Global,
+    store: &Store<D>,
+    session: &mut Session,
+    command: &Command,
+) -> Result<Begun, AllocError>
+    requires closed { IsOpen store.now }
+    requires sees { Sees (definitions_in store.now) session.old.known }
+    ensures begun { IfOk result (λ begun. (begun, session.new.known) ≡ spec.begun (definitions_in store.now) session.old.known command.now) }
+    ensures keeps { IfOk result (λ begun. session.new.asked ≡ asked_by begun) }
+{
+    match store.catalogue() {
+        Some(catalogue) => session.begin(alloc, catalogue, command),
+        None => unreachable!(),
+    }
+}
+
+/// Answers a command by the reply, by the definitions of the store.
+fn finish<D: Disk>(
+    alloc: Global,
+    names: &[Text],
+    store: &Store<D>,
+    session: &mut Session,
+    reply: Reply,
+) -> Result<Answer, AllocError>
+    requires closed { IsOpen store.now }
+    requires allowed { Allows (definitions_in store.now) session.old.known reply }
+    ensures { IfOk result (λ answer. (answer, session.new.known) ≡ spec.finished_by (definitions_in store.now) names.now session.old.known session.old.asked reply) }
+{
+    match store.catalogue() {
+        Some(catalogue) => session.finish(alloc, catalogue, names, reply),
+        None => unreachable!(),
+    }
+}
+
 /// Asks the store, and answers by its reply.
 fn ask_and_finish<D: Disk>(
     alloc: Global,
-    definitions: &Names,
     names: &[Text],
     store: &mut Store<D>,
     session: &mut Session,
     entry: &Entry,
 ) -> Result<Answer, AllocError>
-    requires { session.old.asked ≡ asked_in entry.now }
-    ensures ok { IfOk result (λ answer. Replied D.faults D.clock D.crash definitions.now names.now entry.now answer session.old.known session.new.known store.old store.new) }
+    requires asked { session.old.asked ≡ asked_in entry.now }
+    requires closed { IsOpen store.old }
+    requires sees { Sees (definitions_in store.old) session.old.known }
+    ensures ok { IfOk result (λ answer. Replied D.faults D.clock D.crash (definitions_in store.old) names.now entry.now answer session.old.known session.new.known store.old store.new) }
     ensures err { OnErr result (ReplyWants D.faults D.clock D.crash entry.now store.old store.new) }
 {
     match ask(store, entry) {
-        Ok(reply) => {
-            match session.finish(alloc, definitions.as_slice(), names, &reply) {
-                Ok(answer) => Ok(answer),
-                Err(full) => Err(full),
-            }
-        }
+        Ok(reply) => match finish(alloc, names, store, session, reply) {
+            Ok(answer) => Ok(answer),
+            Err(full) => Err(full),
+        },
         Err(full) => Err(full),
     }
 }
@@ -47,19 +87,20 @@ fn ask_and_finish<D: Disk>(
 /// A command of a session: it answers, or asks the store and answers by the reply.
 pub fn take_turn<D: Disk>(
     alloc: Global,
-    definitions: &Names,
     names: &[Text],
     store: &mut Store<D>,
     session: &mut Session,
     command: &Command,
 ) -> Result<Answer, AllocError>
-    ensures ok { IfOk result (λ answer. Turned D.faults D.clock D.crash definitions.now names.now command.now answer session.old.known session.new.known store.old store.new) }
-    ensures err { OnErr result (TurnWants D.faults D.clock D.crash definitions.now names.now command.now session.old.known store.old store.new) }
+    requires closed { IsOpen store.old }
+    requires sees { Sees (definitions_in store.old) session.old.known }
+    ensures ok { IfOk result (λ answer. Turned D.faults D.clock D.crash (definitions_in store.old) names.now command.now answer session.old.known session.new.known store.old store.new) }
+    ensures err { OnErr result (TurnWants D.faults D.clock D.crash (definitions_in store.old) names.now command.now session.old.known store.old store.new) }
 {
-    match session.begin(alloc, definitions, command)? {
+    match begin(alloc, store, session, command)? {
         Begun::Said(answer) => Ok(answer),
         Begun::Ask(entry) => {
-            match ask_and_finish(alloc, definitions, names, store, session, &entry) {
+            match ask_and_finish(alloc, names, store, session, &entry) {
                 Ok(answer) => Ok(answer),
                 Err(full) => Err(full),
             }

@@ -1,36 +1,49 @@
-ghost use Rattle.std.specs.Prelude.{◌≡◌, ◌&&◌, ◌<◌, min, IfOk, OnOk, OnErr, IsSome, None, Some, true, false, is_none, nat_lt, length, Err};
+ghost use Rattle.std.specs.Prelude.{◌≡◌, ◌<◌, min, IfOk, OnOk, OnErr, None, Some, true, is_none, length, Err};
 ghost use Rattle.aw_cell.specs.Names.{is_name};
-ghost use Rattle.aw_store.specs.Replay.{names_of};
-ghost use Rattle.ses_step.specs.Words.{place_of};
+ghost use Rattle.aw_store.specs.Replay.{definitions_of};
+ghost use Rattle.ses_step.specs.Sessions.{Sees};
 ghost use Rattle.script_world.specs.Worlds as spec;
-ghost use Rattle.script_play.specs.StoreWorlds.{IsSound, JoinsSo, can_join, own_known, own_place, placed};
+ghost use Rattle.script_meaning.specs.Language.{integer};
+ghost use Rattle.script_play.specs.StoreWorlds.{AllSee, IsSound, JoinsSo, definitions_in, own_known, own_place, placed};
 ghost use Rattle.script_play.specs.Turning.{TurnsAt, TurnWants, Answers, Wants, OpensSo, ClosesSo, FinishesWorldSo, RespondsSo, IsOpen, IsOfSession, command_means, session_means, named_means, line_means};
 
 use crate::response::Response;
 use crate::stop::Stop;
 use crate::turn::take_turn;
-use aw_cell::Text;
+use aw_cell::{Kind, Text};
 use aw_disk::Disk;
-use aw_lists::List;
+use aw_lists::{Coord, List};
+use aw_schema::{Catalogue, Def, DefKind, SchemaFault};
 use aw_store::{Store, StoreFault};
+use core::mem;
 use ses_step::{Answer, Command, Line, Names, Session, name_at, read_line};
 use std::alloc::{AllocError, Global};
-
-/// How many objects can be defined.
-const MOST_DEFINITIONS: usize = 4096;
 
 /// How many sessions a run may have.
 const MOST_SESSIONS: usize = 64;
 
-/// The world of a run: the names of the objects in order of definition, the store, which is the
-/// shared state once it has definitions, and the names and the states of the sessions by first
-/// appearance.
+/// The world of a run: the definitions that the script drafts until they are written, the store,
+/// which is the shared state once it has definitions, and the names and the states of the sessions
+/// by first appearance.
 #[derive(Drop)]
 pub struct StoreWorld<S> {
-    pub definitions: Names,
+    pub drafted: Catalogue,
     pub store: S,
     pub names: Names,
     pub sessions: List<Session>,
+}
+
+/// The definition of an INTEGER variable without dimensions.
+fn integer_named(name: Text) -> Def
+    ensures { result ≡ integer name }
+{
+    Def {
+        name,
+        kind: DefKind::Variable {
+            kind: Kind::Int,
+            dimensions: Coord::of(&[]).unwrap(),
+        },
+    }
 }
 
 fn no_session() -> Text
@@ -46,25 +59,20 @@ fn take_turn_at<D: Disk>(
     who: usize,
     command: &Command,
 ) -> Result<Answer, AllocError>
-    requires { who < length world.old.sessions }
+    requires here { who < length world.old.sessions }
+    requires closed { IsOpen world.old.store }
+    requires sees { Sees (definitions_in world.old.store) (own_known world.old who) }
     ensures ok { IfOk result (λ answer. TurnsAt D.faults D.clock D.crash command.now answer who world.old world.new) }
-    ensures err { OnErr result (TurnWants D.faults D.clock D.crash world.old.definitions world.old.names command.now (own_known world.old who) world.old.store world.new.store) }
+    ensures err { OnErr result (TurnWants D.faults D.clock D.crash (definitions_in world.old.store) world.old.names command.now (own_known world.old who) world.old.store world.new.store) }
 {
     let StoreWorld {
-        definitions,
         store,
         names,
         sessions,
+        ..
     } = world;
     let session = sessions.at_mut(who);
-    match take_turn(
-        alloc,
-        definitions,
-        names.as_slice(),
-        store,
-        session,
-        command,
-    ) {
+    match take_turn(alloc, names.as_slice(), store, session, command) {
         Ok(answer) => Ok(answer),
         Err(full) => Err(full),
     }
@@ -73,47 +81,40 @@ fn take_turn_at<D: Disk>(
 impl<D: Disk> StoreWorld<Store<D>> {
     /// Whether the definitions are still to be written.
     fn is_unopened(&self) -> bool
-        ensures { result ≡ is_none (names_of self.now.store.records) }
+        ensures { result ≡ is_none (definitions_of self.now.store.records) }
     {
-        match self.store.names() {
+        match self.store.catalogue() {
             Some(_) => false,
             None => true,
         }
     }
 
-    fn can_define(&self, name: &Text) -> bool
-        ensures { result ≡ can_join self.now name.now }
-    {
-        self.is_unopened()
-            && self.definitions.len() < MOST_DEFINITIONS
-            && self.definitions.find(name).is_none()
-    }
-
+    /// Defines an INTEGER variable, before the definitions are written.
     fn define(&mut self, name: Text) -> Result<Option<Response>, AllocError>
+        requires { is_name name ≡ true }
         ensures ok { IfOk result (λ response. JoinsSo name response self.old self.new) }
         ensures err { OnErr result (self.new ≡ self.old) }
     {
-        if !self.can_define(&name) {
+        if !self.is_unopened() {
             return Ok(Some(Response::refused(no_session())));
         }
-        match self.definitions.push(name) {
-            Ok(()) => Ok(None),
-            Err(full) => Err(full),
+        match self.drafted.check(integer_named(name)) {
+            Ok(_) => Ok(None),
+            Err(SchemaFault::NoMemory) => Err(AllocError),
+            Err(_) => Ok(Some(Response::refused(no_session()))),
         }
     }
 
-    /// Writes the definitions, where there are none on the disk.
+    /// Writes the definitions that were drafted, where there are none on the disk. After an `Err`
+    /// they are gone.
     pub fn open(&mut self, alloc: Global) -> Result<(), Stop>
         requires sound { IsSound self.old }
-        requires unopened { names_of self.old.store.records ≡ None }
+        requires unopened { definitions_of self.old.store.records ≡ None }
         ensures opens { OpensSo D.faults D.clock D.crash result self.old self.new }
     {
         self.store.stands();
-        let names = match List::from_slice(alloc, self.definitions.as_slice()) {
-            Ok(names) => names,
-            Err(_) => return Err(Stop::NoMemory),
-        };
-        match self.store.define(names) {
+        let drafted = mem::replace(&mut self.drafted, Catalogue::new(alloc));
+        match self.store.define(drafted) {
             Ok(()) => Ok(()),
             Err(StoreFault::DiskFault) => Err(Stop::DiskFault),
             Err(StoreFault::NoMemory) => Err(Stop::NoMemory),
@@ -143,7 +144,7 @@ impl<D: Disk> StoreWorld<Store<D>> {
         if !self.is_unopened() {
             return Ok(());
         }
-        if self.definitions.len() == 0 {
+        if self.drafted.len() == 0 {
             return Ok(());
         }
         match self.open(alloc) {
@@ -159,7 +160,7 @@ impl<D: Disk> StoreWorld<Store<D>> {
     }
 
     /// Gives a name its place; one that hasn't appeared yet makes a session, where there's room.
-    fn add_session(&mut self, name: Text) -> Result<(), AllocError>
+    fn add_session(&mut self, alloc: Global, name: Text) -> Result<(), AllocError>
         ensures added { OnOk result (self.new ≡ placed self.old name) }
         ensures store { self.new.store ≡ self.old.store }
     {
@@ -170,7 +171,7 @@ impl<D: Disk> StoreWorld<Store<D>> {
         let last = self.names.len();
         self.names.push(name)?;
         if last < MOST_SESSIONS {
-            self.sessions.push(Session::new(last as u32))
+            self.sessions.push(Session::new(alloc, last as u32))
         } else {
             Ok(())
         }
@@ -185,6 +186,7 @@ impl<D: Disk> StoreWorld<Store<D>> {
     ) -> Result<Response, AllocError>
         requires placed { who < length self.old.sessions }
         requires closed { IsOpen self.old.store }
+        requires seen { AllSee (definitions_in self.old.store) self.old.sessions }
         ensures ok { IfOk result (λ response. Answers D.faults D.clock D.crash (command_means who command) (Some response) self.old self.new) }
         ensures err { OnErr result (Wants D.faults D.clock D.crash (command_means who command) self.old self.new) }
     {
@@ -207,11 +209,12 @@ impl<D: Disk> StoreWorld<Store<D>> {
     ) -> Result<Response, AllocError>
         requires paired { length self.old.sessions ≡ min (length self.old.names) 64 }
         requires closed { IsOpen self.old.store }
+        requires seen { AllSee (definitions_in self.old.store) self.old.sessions }
         ensures ok { IfOk result (λ response. Answers D.faults D.clock D.crash (session_means name command) (Some response) self.old self.new) }
         ensures err { OnErr result (Wants D.faults D.clock D.crash (session_means name command) self.old self.new) }
     {
         let who = self.session_place(&name);
-        match self.add_session(name) {
+        match self.add_session(alloc, name) {
             Ok(()) => {}
             Err(full) => return Err(full),
         }

@@ -116,10 +116,7 @@ fn opened<K: Sink, D: Disk + Drop>(alloc: Global, disk: D, out: &mut K) -> Resul
 
 // The number of the first object's latest generation, or 0 where there is none.
 fn first_number<D: Disk>(store: &Store<D>) -> u64 {
-    match store.names() {
-        Some(names) if !names.is_empty() => store.look(0).0,
-        _ => 0,
-    }
+    if store.keeps(0) { store.look(0).0 } else { 0 }
 }
 
 // How opening a disk of these bytes goes, which fails at these calls, over a sink that fails at these.

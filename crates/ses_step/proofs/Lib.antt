@@ -1,5 +1,9 @@
 mod Integers
 mod Texts
 mod FirstPlaces
-pub mod Mapping
+mod Worked
+pub mod Seeing
+pub mod OnePage
+pub mod Begins
 pub mod AnswerLines
+pub mod callers

@@ -3,3 +3,4 @@ pub mod NameIndex
 pub mod Lines
 pub mod Answers
 pub mod Sessions
+pub mod inside

@@ -1,17 +1,23 @@
 -- What a command means for one session: what it is answered, or what it asks of the shared state and what it makes of the reply.
 --
--- Of each object an attached session has the number of a generation, and three bodies: the base body is that generation, the private
--- body is the one that it reads and assigns, and the staged body is the one that it would commit. Its views stand in order of definition.
-use Rattle.std.specs.Prelude.{◌&&◌, ◌+◌, ℕ, min, not, List, [], ◌∷◌, map, filter, Option, Some, None, Result, Ok, Err, Bool, true, false, slice_get, slice_index_or, slice_set, ⊤}
-use Rattle.std.specs.Option.{option_map, ok_or}
-use Rattle.aw_cell.specs.declared.cell.Cell.TheVariants.{Int}
-use Rattle.aw_cell.specs.Cell.{same_cell}
-use Rattle.mv_core.specs.declared.entry.Change.{Change}
-use Rattle.mv_core.specs.declared.entry.Fresh.{Fresh}
+-- An attached session has a view of the objects that are kept (mv_view). The definitions are those of all objects, in order.
+use Rattle.std.specs.Prelude.{◌≡◌, ℕ, List, [], ◌∷◌, map, cond, Option, Some, None, IfSome, Result, Ok, Err, Bool, true, false, slice_get, slice_index_or, ⊤}
+use Rattle.std.specs.Option.{option_map}
+use Rattle.aw_cell.specs.declared.cell.Cell.{Cell}
+use Rattle.aw_cell.specs.declared.cell.Cell.TheVariants.{Na, Int}
+use Rattle.aw_cell.specs.declared.cell.Kind.TheVariants.{Int as Integer}
+use Rattle.aw_schema.specs.declared.definition.Def.{Def}
+use Rattle.aw_schema.specs.declared.definition.DefKind.{DefKind}
+use Rattle.aw_schema.specs.declared.definition.DefKind.TheVariants.{Variable}
+use Rattle.aw_schema.specs.Definitions as definition
+use Rattle.aw_body.specs.declared.change.Change.{Change}
+use Rattle.aw_body.specs.declared.change.Seen.{Seen}
 use Rattle.mv_core.specs.declared.entry.Entry.{Entry}
 use Rattle.mv_core.specs.declared.entry.Entry.TheVariants as entry
 use Rattle.mv_core.specs.declared.entry.Reply.{Reply}
-use Rattle.mv_core.specs.declared.entry.Reply.TheVariants.{Attached, Acquired, Committed, Owned, Newer, Stranger, Worn, Fault, NoMemory}
+use Rattle.mv_core.specs.declared.entry.Reply.TheVariants.{Attached, Acquired, Resynced, Committed, Released, Detached, Owned, Newer, Stranger, Worn, TooLarge, Fault, NoMemory}
+use Rattle.mv_view.specs.ViewState.{ObjectView, object_of, owned_objects, kinds_of, kept_kinds, kept_objects, HaveForms}
+use Rattle.mv_view.specs.Rules as rule
 use Rattle.ses_step.specs.declared.line.Command.{Command}
 use Rattle.ses_step.specs.declared.line.Command.TheVariants as command
 use Rattle.ses_step.specs.declared.answer.Answer.{Answer}
@@ -21,133 +27,155 @@ use Rattle.ses_step.specs.declared.session.Begun.{Begun}
 use Rattle.ses_step.specs.declared.session.Begun.TheVariants.{Said, Ask}
 use Rattle.ses_step.specs.declared.session.Known.{Known}
 use Rattle.ses_step.specs.declared.session.Session.{Session}
-use Rattle.ses_step.specs.declared.session.View.{View}
-use Rattle.ses_step.specs.Words.{place_of}
-use Rattle.ses_report.specs.Refusals.{no_form, not_attached, already_attached, owned_by, newer, not_acquired, full, disk_fault}
+use Rattle.ses_report.specs.Refusals.{no_form, not_attached, already_attached, owned_by, newer, not_acquired, full, too_large, disk_fault}
 
 -- a session that isn't attached
 abbrev pub new_session : ℕ → Known
-new_session who = record { who = who; views = None }
+new_session who = record { who = who; view = None }
 
 -- a session that doesn't wait
 abbrev pub resting : Known → Session
-resting known = record { known = known; asked = None }
+resting known = record { known = known; asked = [] }
 
--- ---- a session's view of an object
+-- the view of a session is of these definitions
+abbrev pub Sees : List Def → Known → Type 0
+Sees definitions s = IfSome s.view (λ view. kinds_of view ≡ kept_kinds definitions)
 
--- the view of one object is replaced
-abbrev pub with_view : Known → View → Known
-with_view s view = record s { views = option_map (λ views. slice_set views view.object view) s.views }
+-- ---- an object that a session sees
 
--- attached: all three bodies are the generation that the reply carries, and nothing is owned
-abbrev pub seen : Fresh → View
-seen fresh = record { object = fresh.object; number = fresh.number; base = fresh.cell; staged = fresh.cell; private = fresh.cell; owned = false }
+abbrev pub seen_in : Known → ℕ → Option ObjectView
+seen_in s object = elim s.view [ None ↦ None | Some view ↦ object_of view object ]
 
--- UPDATE: the staged body of an owned object becomes its private body
-abbrev pub updated : View → View
-updated view = record view { staged = elim view.owned [ true ↦ view.private | false ↦ view.staged ] }
+-- the number of its generation
+abbrev pub number_in : Known → ℕ → ℕ
+number_in s object = elim (seen_in s object) [ None ↦ 0 | Some found ↦ found.number ]
 
--- COMMIT changes the owned objects whose staged body differs from the base body
-abbrev pub is_staged : View → Bool
-is_staged view = view.owned && not (same_cell view.staged view.base)
+-- the generation that the session has of it
+abbrev pub generation_in : Known → ℕ → Seen
+generation_in s object = record { object = object; number = number_in s object }
 
--- the staged body is the new generation
-abbrev pub change_of_view : View → Change
-change_of_view view = record { object = view.object; cell = view.staged }
+-- ---- an INTEGER variable without dimensions
 
--- committed: a changed object's number rises by one, and its base body becomes its staged body
-abbrev pub committed_view : View → View
-committed_view view = elim (is_staged view) [
-  | true ↦ record view { number = min (view.number + 1) 18446744073709551615; base = view.staged }
-  | false ↦ view
-]
+-- no line shows or assigns any other object yet
+abbrev pub is_single : DefKind → Bool
+is_single (Variable Integer []) = true
+is_single _ = false
+
+abbrev pub is_single_at : List Def → ℕ → Bool
+is_single_at definitions object = elim (slice_get definitions object) [ None ↦ false | Some def ↦ is_single def.kind ]
+
+-- its one cell
+abbrev pub cell_in : Known → ℕ → Cell
+cell_in s object = elim s.view [ None ↦ Na | Some view ↦ rule.read view object [] ]
+
+abbrev pub with_cell : Known → ℕ → Cell → Known
+with_cell s object cell = record s { view = option_map (λ view. rule.written view object (([], cell) ∷ [])) s.view }
 
 -- ---- the command
 
--- the view of the object that a command names: a name that isn't defined is refused first, then a session that isn't attached
-abbrev pub located : List (List ℕ) → Known → List ℕ → Result View Refusal
-located definitions s name = elim (place_of definitions name) [
+-- the object that a command names: a name that isn't defined is refused first, then a session that isn't attached, then an object
+-- that isn't kept
+abbrev pub located : List Def → Known → List ℕ → Result ℕ Refusal
+located definitions s name = elim (definition.object_of definitions name) [
   | None ↦ Err no_form
-  | Some object ↦ elim s.views [ None ↦ Err not_attached | Some views ↦ ok_or (slice_get views object) no_form ]
+  | Some object ↦ elim s.view [
+    | None ↦ Err not_attached
+    | Some view ↦ elim (object_of view object) [ None ↦ Err no_form | Some found ↦ Ok object ]
+  ]
+]
+
+-- the variable whose one cell a command names: what is no such variable is refused last
+abbrev pub located_cell : List Def → Known → List ℕ → Result ℕ Refusal
+located_cell definitions s name = elim (located definitions s name) [
+  | Err refusal ↦ Err refusal
+  | Ok object ↦ cond (is_single_at definitions object) (Ok object) (Err no_form)
 ]
 
 -- where nothing is changed there is nothing to ask
 abbrev pub commit_asked : Known → List Change → Begun × Known
 commit_asked s [] = (Said Done, s)
-commit_asked s (change ∷ changes) = (Ask (entry.Commit s.who (change ∷ changes)), s)
+commit_asked s (change ∷ changes) = (Ask (entry.Commit s.who (change ∷ changes) []), s)
 
--- the definitions are the names of the objects in order of definition; a refusal leaves the session as it was
-abbrev pub begun : List (List ℕ) → Known → Command → Begun × Known
-begun definitions s command.Attach = elim s.views [
+-- a refusal leaves the session as it was
+abbrev pub begun : List Def → Known → Command → Begun × Known
+begun definitions s command.Attach = elim s.view [
   | None ↦ (Ask (entry.Attach s.who), s)
-  | Some views ↦ (Said (Refused already_attached), s)
+  | Some view ↦ (Said (Refused already_attached), s)
 ]
 begun definitions s (command.Acquire name) = elim (located definitions s name) [
   | Err refusal ↦ (Said (Refused refusal), s)
-  | Ok view ↦ (Ask (entry.Acquire s.who view.object view.number), s)
+  | Ok object ↦ (Ask (entry.Acquire s.who (generation_in s object ∷ []) [] []), s)
 ]
-begun definitions s (command.Assign name value) = elim (located definitions s name) [
+begun definitions s (command.Assign name value) = elim (located_cell definitions s name) [
   | Err refusal ↦ (Said (Refused refusal), s)
-  | Ok view ↦ (Said Done, with_view s (record view { private = Int value }))
+  | Ok object ↦ (Said Done, with_cell s object (Int value))
 ]
-begun definitions s command.Update = elim s.views [
+begun definitions s command.Update = elim s.view [
   | None ↦ (Said (Refused not_attached), s)
-  | Some views ↦ (Said Done, record s { views = Some (map updated views) })
+  | Some view ↦ (Said Done, record s { view = Some (rule.updated view (owned_objects view)) })
 ]
-begun definitions s command.Commit = elim s.views [
+begun definitions s command.Commit = elim s.view [
   | None ↦ (Said (Refused not_attached), s)
-  | Some views ↦ commit_asked s (map change_of_view (filter is_staged views))
+  | Some view ↦ commit_asked s (rule.changes view)
 ]
-begun definitions s (command.Show name) = elim (located definitions s name) [
+begun definitions s (command.Show name) = elim (located_cell definitions s name) [
   | Err refusal ↦ (Said (Refused refusal), s)
-  | Ok view ↦ (Said (Shown view.private), s)
+  | Ok object ↦ (Said (Shown (cell_in s object)), s)
 ]
 
+-- the commands at whose beginning there may be too little memory
+abbrev pub TakesMemory : Command → Type 0
+TakesMemory command.Attach = ⊥
+TakesMemory (command.Show name) = ⊥
+TakesMemory _ = ⊤
+
 -- ---- the reply
+
+-- the name of an object, and the empty one past the last
+abbrev pub name_of : List Def → ℕ → List ℕ
+name_of definitions object = elim (slice_get definitions object) [ None ↦ [] | Some def ↦ def.name ]
 
 -- a name in a list, and the empty one past its end
 abbrev pub name_at : List (List ℕ) → ℕ → List ℕ
 name_at names at = slice_index_or names at []
 
--- the object that was asked for is owned from now on, and keeps its three bodies
-abbrev pub owning_in : List View → ℕ → List View
-owning_in views object = elim (slice_get views object) [
-  | None ↦ views
-  | Some view ↦ slice_set views view.object (record view { owned = true })
-]
+-- a session that waits keeps what it asked: the objects that it is to own with the bodies that it has
+abbrev pub asked_in : Entry → List ℕ
+asked_in (entry.Acquire who keep fresh same) = map (λ (seen : Seen). seen.object) keep
+asked_in _ = []
 
--- of one that was asked for
-abbrev pub owning : Known → Option ℕ → Known
-owning s None = s
-owning s (Some object) = record s { views = option_map (λ views. owning_in views object) s.views }
-
--- a session that waits keeps what it asked: the object that it is to own
-abbrev pub asked_in : Entry → Option ℕ
-asked_in (entry.Acquire who object number) = Some object
-asked_in (entry.Attach who) = None
-asked_in (entry.Commit who changes) = None
-
-abbrev pub asked_by : Begun → Option ℕ
+abbrev pub asked_by : Begun → List ℕ
 asked_by (Ask entry) = asked_in entry
-asked_by (Said answer) = None
+asked_by (Said answer) = []
 
 -- the names are those of the sessions by their numbers; a refusal leaves the session as it was, and want of memory is no answer
-abbrev pub finished_by : List (List ℕ) → List (List ℕ) → Known → Option ℕ → Reply → Answer × Known
-finished_by definitions names s asked (Attached fresh) = (Done, record s { views = Some (map seen fresh) })
-finished_by definitions names s asked Acquired = (Done, owning s asked)
-finished_by definitions names s asked Committed = (Done, record s { views = option_map (map committed_view) s.views })
-finished_by definitions names s asked (Owned object by) = (Refused (owned_by (name_at definitions object) (name_at names by)), s)
-finished_by definitions names s asked (Newer object number) = (Refused (newer (name_at definitions object) number), s)
-finished_by definitions names s asked (Stranger object) = (Refused (not_acquired (name_at definitions object)), s)
-finished_by definitions names s asked (Worn object) = (Refused (full (name_at definitions object)), s)
+abbrev pub finished_by : List Def → List (List ℕ) → Known → List ℕ → Reply → Answer × Known
+finished_by definitions names s asked (Attached fresh) = (Done, record s { view = Some (rule.attached s.who definitions fresh) })
+finished_by definitions names s asked (Acquired fresh) = (Done, record s { view = option_map (λ view. rule.acquired view asked fresh) s.view })
+finished_by definitions names s asked (Resynced fresh) = (Done, record s { view = option_map (λ view. rule.resynced view fresh) s.view })
+finished_by definitions names s asked Committed = (Done, record s { view = option_map rule.committed s.view })
+finished_by definitions names s asked Released = (Done, s)
+finished_by definitions names s asked Detached = (Done, s)
+finished_by definitions names s asked (Owned object by) = (Refused (owned_by (name_of definitions object) (name_at names by)), s)
+finished_by definitions names s asked (Newer object number) = (Refused (newer (name_of definitions object) number), s)
+finished_by definitions names s asked (Stranger object) = (Refused (not_acquired (name_of definitions object)), s)
+finished_by definitions names s asked (Worn object) = (Refused (full (name_of definitions object)), s)
+finished_by definitions names s asked (TooLarge bytes) = (Refused too_large, s)
 finished_by definitions names s asked Fault = (Refused disk_fault, s)
 finished_by definitions names s asked NoMemory = (Done, s)
 
 -- the reply to an entry
-abbrev pub finished : List (List ℕ) → List (List ℕ) → Known → Entry → Reply → Answer × Known
+abbrev pub finished : List Def → List (List ℕ) → Known → Entry → Reply → Answer × Known
 finished definitions names s asked reply = finished_by definitions names s (asked_in asked) reply
 
--- the replies after which `finish` may want memory: one of which it makes the views, and want of memory itself
+-- what a reply hands over has the form of its definition, and to a session that attaches it is one generation of each kept object
+abbrev pub Allows : List Def → Known → Reply → Type 0
+Allows definitions s (Attached fresh) = (rule.objects_of fresh ≡ kept_objects (kept_kinds definitions)) × HaveForms (kept_kinds definitions) fresh
+Allows definitions s (Acquired fresh) = IfSome s.view (λ view. HaveForms (kinds_of view) fresh)
+Allows definitions s (Resynced fresh) = IfSome s.view (λ view. HaveForms (kinds_of view) fresh)
+Allows definitions s _ = Unit {0}
+
+-- the replies after which `finish` may want memory: one of which it makes the view, and want of memory itself
 abbrev pub MayWantMemory : Reply → Type 0
 MayWantMemory (Attached fresh) = ⊤
 MayWantMemory NoMemory = ⊤

@@ -5,11 +5,13 @@
 mod answer;
 mod line;
 mod names;
+mod objects;
 mod session;
 mod word;
 
 pub use answer::{Answer, append_line};
 pub use line::{Command, Line, read_line};
 pub use names::Names;
-pub use session::{Begun, Known, Session, View, name_at};
+pub use objects::name_at;
+pub use session::{Begun, Known, Session};
 pub use std::alloc::AllocError as NoMemory;

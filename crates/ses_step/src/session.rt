@@ -1,55 +1,49 @@
-ghost use Rattle.std.specs.Prelude.{◌≡◌, [], map, filter, slice_set, None, IfOk, IsErr, OnErr};
-ghost use Rattle.std.specs.Option.{option_map};
-ghost use Rattle.mv_core.specs.declared.entry.Reply.TheVariants.{NoMemory};
+ghost use Rattle.std.specs.Prelude.{◌≡◌, [], ◌∷◌, map, IfOk, IsErr, IsSome, OnErr, OnOk};
+ghost use Rattle.std.specs.Option.{IsSomeAnd};
+ghost use Rattle.aw_cell.specs.declared.cell.Cell.TheVariants.{Int};
+ghost use Rattle.aw_schema.specs.declared.definition.DefKind.TheVariants.{Variable};
+ghost use Rattle.aw_cell.specs.declared.cell.Kind.TheVariants.{Int as Integer};
+ghost use Rattle.mv_core.specs.declared.entry.Reply.TheVariants.{Acquired, Attached, Committed, NoMemory, Resynced};
+ghost use Rattle.mv_view.specs.ViewState.{object_of as seen_of, owned_objects};
+ghost use Rattle.mv_view.specs.Rules as rule;
+ghost use Rattle.ses_step.specs.declared.answer.Answer.TheVariants.{Refused};
 ghost use Rattle.ses_step.specs.declared.line.Command.TheVariants.{Attach, Acquire, Assign, Update, Commit, Show};
+ghost use Rattle.ses_step.specs.declared.session.Begun.TheVariants.{Said};
 ghost use Rattle.ses_step.specs.Sessions as spec;
+ghost use Rattle.ses_step.specs.inside.Asking.{AsksToOwn};
 
 use crate::answer::Answer;
 use crate::line::Command;
-use crate::names::Names;
+use crate::objects::{is_seen, is_single_at, name_at, name_of, no_slots};
 use aw_cell::{Cell, Text};
 use aw_lists::List;
-use mv_core::{Change, Entry, Fresh, Reply};
+use aw_schema::Catalogue;
+use mv_core::{Entry, Fresh, Reply, Seen};
+use mv_view::{View, ViewFault};
 use ses_report::Refusal;
 use std::alloc::{AllocError, Global};
+use std::mem;
 
-/// An object as an attached session sees it (docs/SHARING.md).
-#[derive(Clone, Copy, Debug, PartialEq, Eq)]
-pub struct View {
-    /// The object's place in order of definition, from 0.
-    pub object: u16,
-    /// The number of the generation that the session has.
-    pub number: u64,
-    /// The cell of that generation.
-    pub base: Cell,
-    /// The cell that a commit would make the next generation.
-    pub staged: Cell,
-    /// The cell that the session reads, and that its assignments write.
-    pub private: Cell,
-    /// Whether the session owns the object.
-    pub owned: bool,
-}
-
-/// What one session knows: its number, and how it sees each object (docs/SHARING.md).
-#[derive(Debug, PartialEq, Eq, Drop)]
+/// What one session knows: its number, and what it sees of the workspace (docs/SHARING.md).
+#[derive(Drop)]
 pub struct Known {
     /// The session's number, by which the shared state knows it.
     pub who: u32,
-    /// A view of each object in order of definition, once the session is attached.
-    pub views: Option<List<View>>,
+    /// Its view of the objects, once the session is attached.
+    pub view: Option<View>,
 }
 
 /// One session. While it waits for a reply it keeps what it asked (docs/SHARING.md).
-#[derive(Debug, PartialEq, Eq, Drop)]
+#[derive(Drop)]
 pub struct Session {
     /// What the session knows, which no wait changes.
     pub known: Known,
-    /// The object that it waits to own, from 0.
-    pub asked: Option<u16>,
+    /// The objects that it waits to own with the bodies that it has, by their numbers.
+    pub asked: List<u16>,
 }
 
 /// What a command comes to.
-#[derive(Debug, PartialEq, Eq, Drop)]
+#[derive(Drop)]
 pub enum Begun {
     /// The session answers by itself.
     Said(Answer),
@@ -57,144 +51,61 @@ pub enum Begun {
     Ask(Entry),
 }
 
-impl View {
-    fn of(fresh: &Fresh) -> View
-        ensures { result ≡ spec.seen fresh.now }
-    {
-        View {
-            object: fresh.object,
-            number: fresh.number,
-            base: fresh.cell,
-            staged: fresh.cell,
-            private: fresh.cell,
-            owned: false,
-        }
-    }
-
-    fn is_staged(&self) -> bool
-        ensures { result ≡ spec.is_staged self.now }
-    {
-        self.owned && self.staged != self.base
-    }
-
-    fn change(&self) -> Change
-        ensures { result ≡ spec.change_of_view self.now }
-    {
-        Change {
-            object: self.object,
-            cell: self.staged,
-        }
-    }
-
-    fn update(&mut self)
-        ensures { self.new ≡ spec.updated self.old }
-    {
-        if self.owned {
-            self.staged = self.private;
-        }
-    }
-
-    fn commit(&mut self)
-        ensures { self.new ≡ spec.committed_view self.old }
-    {
-        if self.is_staged() {
-            self.number = self.number.saturating_add(1);
-            self.base = self.staged;
-        }
-    }
+fn refused(refusal: Refusal) -> Begun
+    ensures { result ≡ Said (Refused refusal) }
+{
+    Begun::Said(Answer::Refused(refusal))
 }
 
-fn seen(alloc: Global, fresh: &[Fresh]) -> Result<Vec<View>, AllocError>
-    ensures { IfOk result (λ views. views.items ≡ map spec.seen fresh.now) }
+fn objects(alloc: Global, seen: &[Seen]) -> Result<Vec<u16>, AllocError>
+    ensures { IfOk result (λ objects. objects.items ≡ map (λ one. one.object) seen.now) }
 {
-    fresh.iter().map(|fresh| View::of(fresh)).collect(alloc)
+    seen.iter().map(|seen| seen.object).collect(alloc)
 }
 
-/// The views of a session that attaches.
-fn views_of(alloc: Global, fresh: &[Fresh]) -> Result<List<View>, AllocError>
-    ensures { IfOk result (λ views. views ≡ map spec.seen fresh.now) }
+/// The objects of which these are generations.
+fn objects_of(alloc: Global, seen: &[Seen]) -> Result<List<u16>, AllocError>
+    ensures { IfOk result (λ objects. objects ≡ map (λ one. one.object) seen.now) }
 {
-    Ok(List::from_vec(seen(alloc, fresh)?))
+    Ok(List::from_vec(objects(alloc, seen)?))
 }
 
-fn staged(alloc: Global, views: &[View]) -> Result<Vec<Change>, AllocError>
-    ensures { IfOk result (λ changes.
-        changes.items ≡ map spec.change_of_view (filter spec.is_staged views.now)) }
+/// Stages the private bodies of all objects that the session owns.
+#[tactic(auto, using(crate::proofs::Seeing::owned_listed))]
+fn update_owned(alloc: Global, view: &mut View) -> Result<(), AllocError>
+    ensures ok { OnOk result (view.new ≡ rule.updated view.old (owned_objects view.old)) }
+    ensures err { OnErr result (view.new ≡ view.old) }
 {
-    views
-        .iter()
-        .filter(|view| view.is_staged())
-        .map(|view| view.change())
-        .collect(alloc)
+    let owned = List::from_slice(alloc, view.owned_objects())?;
+    view.update(&owned)
 }
 
-/// What a commit changes.
-fn staged_changes(alloc: Global, views: &[View]) -> Result<List<Change>, AllocError>
-    ensures { IfOk result (λ changes.
-        changes ≡ map spec.change_of_view (filter spec.is_staged views.now)) }
+/// Writes the one cell of an INTEGER variable without dimensions.
+#[tactic(auto, using(crate::proofs::OnePage::one_page))]
+fn write_cell(alloc: Global, view: &mut View, object: u16, value: i32) -> Result<(), AllocError>
+    requires { IsSomeAnd (seen_of view.old object) (λ found. found.kind ≡ Variable Integer []) }
+    ensures ok { OnOk result (view.new ≡ rule.written view.old object (([], Int value) ∷ [])) }
+    ensures err { OnErr result (view.new ≡ view.old) }
 {
-    Ok(List::from_vec(staged(alloc, views)?))
-}
-
-fn put_view(views: &mut List<View>, view: View)
-    ensures { views.new ≡ slice_set views.old view.object view }
-{
-    let at = view.object as usize;
-    if at < views.len() {
-        *views.at_mut(at) = view;
-    }
-}
-
-fn own_view(views: &mut List<View>, object: u16)
-    ensures { views.new ≡ spec.owning_in views.old object }
-{
-    if let Some(view) = views.get(object as usize) {
-        let mut view = *view;
-        view.owned = true;
-        put_view(views, view);
-    }
-}
-
-fn update_views(views: &mut List<View>)
-    ensures { views.new ≡ map spec.updated views.old }
-{
-    for at in 0..views.len() {
-        views.at_mut(at).update();
-    }
-}
-
-fn commit_views(views: &mut List<View>)
-    ensures { views.new ≡ map spec.committed_view views.old }
-{
-    for at in 0..views.len() {
-        views.at_mut(at).commit();
-    }
-}
-
-fn no_name() -> Text
-    ensures { result ≡ [] }
-{
-    Text::of(b"").unwrap()
-}
-
-/// The name at a place of a list, from 0, and the empty text past its end.
-pub fn name_at(names: &[Text], at: usize) -> Text
-    ensures { result ≡ spec.name_at names.now at }
-{
-    match names.get(at) {
-        Some(name) => *name,
-        None => no_name(),
+    let cells = List::from_slice(alloc, &[(no_slots(), Cell::Int(value))])?;
+    // The body has its definition's form, so that the cell lies on one page.
+    let _ = view.body(object);
+    match view.write(object, &cells) {
+        Ok(()) => Ok(()),
+        Err(ViewFault::NoMemory) => Err(AllocError),
+        Err(ViewFault::Full) => unreachable!(),
     }
 }
 
 impl Begun {
-    /// The object that the session asks to own.
-    fn asked(&self) -> Option<u16>
-        ensures { result ≡ spec.asked_by self.now }
+    /// The objects that the session asks to own with the bodies that it has.
+    fn asked(&self, alloc: Global) -> Result<List<u16>, AllocError>
+        ensures value { IfOk result (λ asked. asked ≡ spec.asked_by self.now) }
+        ensures err { OnErr result (AsksToOwn self.now) }
     {
         match self {
-            Begun::Ask(Entry::Acquire { object, .. }) => Some(*object),
-            _ => None,
+            Begun::Ask(Entry::Acquire { keep, .. }) => objects_of(alloc, keep.as_slice()),
+            _ => Ok(List::new(alloc)),
         }
     }
 }
@@ -203,75 +114,129 @@ impl Known {
     fn new(who: u32) -> Known
         ensures { result ≡ spec.new_session who }
     {
-        Known { who, views: None }
+        Known { who, view: None }
     }
 
-    fn located(&self, definitions: &Names, name: &Text) -> Result<View, Refusal>
-        ensures { result ≡ spec.located definitions.now self.now name.now }
+    fn located(&self, catalogue: &Catalogue, name: &Text) -> Result<u16, Refusal>
+        requires { spec.Sees catalogue.now self.now }
+        ensures value { result ≡ spec.located catalogue.now self.now name.now }
+        ensures found { IfOk result (λ object. IsSome (spec.seen_in self.now object)) }
     {
-        let Some(object) = definitions.find(name) else {
+        let Some(object) = catalogue.find(name) else {
             return Err(Refusal::no_form());
         };
-        let Some(views) = &self.views else {
+        let Some(view) = &self.view else {
             return Err(Refusal::not_attached());
         };
-        match views.get(object) {
-            Some(view) => Ok(*view),
-            None => Err(Refusal::no_form()),
+        if is_seen(catalogue, view, object) {
+            Ok(object)
+        } else {
+            Err(Refusal::no_form())
         }
     }
 
-    fn put(&mut self, view: View)
-        ensures { self.new ≡ spec.with_view self.old view }
+    fn located_cell(&self, catalogue: &Catalogue, name: &Text) -> Result<u16, Refusal>
+        requires { spec.Sees catalogue.now self.now }
+        ensures value { result ≡ spec.located_cell catalogue.now self.now name.now }
+        ensures found { IfOk result (λ object. IsSomeAnd (spec.seen_in self.now object) (λ found. found.kind ≡ Variable Integer [])) }
     {
-        if let Some(views) = &mut self.views {
-            put_view(views, view);
+        let object = self.located(catalogue, name)?;
+        if is_single_at(catalogue, object) {
+            Ok(object)
+        } else {
+            Err(Refusal::no_form())
         }
     }
 
     fn attach(&self) -> Begun
         ensures { (result, self.now) ≡ spec.begun [] self.now Attach }
     {
-        match &self.views {
+        match &self.view {
             None => Begun::Ask(Entry::Attach { who: self.who }),
-            Some(_) => Begun::Said(Answer::Refused(Refusal::already_attached())),
+            Some(_) => refused(Refusal::already_attached()),
         }
     }
 
-    fn acquire(&self, definitions: &Names, name: &Text) -> Begun
-        ensures { (result, self.now) ≡ spec.begun definitions.now self.now (Acquire name.now) }
+    /// The generation that the session has of an object.
+    fn generation(&self, object: u16) -> Seen
+        requires { IsSome (spec.seen_in self.now object) }
+        ensures { result ≡ spec.generation_in self.now object }
     {
-        match self.located(definitions, name) {
-            Err(refusal) => Begun::Said(Answer::Refused(refusal)),
-            Ok(view) => Begun::Ask(Entry::Acquire {
-                who: self.who,
-                object: view.object,
-                number: view.number,
-            }),
+        match &self.view {
+            Some(view) => Seen {
+                object,
+                number: view.number(object),
+            },
+            None => unreachable!(),
         }
     }
 
-    fn assign(&mut self, definitions: &Names, name: &Text, value: i32) -> Begun
-        ensures { (result, self.new) ≡ spec.begun definitions.now self.old (Assign name.now value) }
+    fn acquire(
+        &self,
+        alloc: Global,
+        catalogue: &Catalogue,
+        name: &Text,
+    ) -> Result<Begun, AllocError>
+        requires { spec.Sees catalogue.now self.now }
+        ensures { IfOk result (λ begun.
+            (begun, self.now) ≡ spec.begun catalogue.now self.now (Acquire name.now)) }
     {
-        match self.located(definitions, name) {
-            Err(refusal) => Begun::Said(Answer::Refused(refusal)),
-            Ok(mut view) => {
-                view.private = Cell::Int(value);
-                self.put(view);
-                Begun::Said(Answer::Done)
+        match self.located(catalogue, name) {
+            Err(refusal) => Ok(refused(refusal)),
+            Ok(object) => {
+                let keep = List::from_slice(alloc, &[self.generation(object)])?;
+                Ok(Begun::Ask(Entry::Acquire {
+                    who: self.who,
+                    keep,
+                    fresh: List::new(alloc),
+                    same: List::new(alloc),
+                }))
             }
         }
     }
 
-    fn update(&mut self) -> Begun
-        ensures { (result, self.new) ≡ spec.begun [] self.old Update }
+    /// Writes the one cell of an INTEGER variable without dimensions.
+    fn put(&mut self, alloc: Global, object: u16, value: i32) -> Result<(), AllocError>
+        requires { IsSomeAnd (spec.seen_in self.old object) (λ found. found.kind ≡ Variable Integer []) }
+        ensures ok { OnOk result (self.new ≡ spec.with_cell self.old object (Int value)) }
+        ensures err { OnErr result (self.new ≡ self.old) }
     {
-        match &mut self.views {
-            None => Begun::Said(Answer::Refused(Refusal::not_attached())),
-            Some(views) => {
-                update_views(views);
-                Begun::Said(Answer::Done)
+        match &mut self.view {
+            Some(view) => write_cell(alloc, view, object, value),
+            None => unreachable!(),
+        }
+    }
+
+    fn assign(
+        &mut self,
+        alloc: Global,
+        catalogue: &Catalogue,
+        name: &Text,
+        value: i32,
+    ) -> Result<Begun, AllocError>
+        requires { spec.Sees catalogue.now self.old }
+        ensures begun { IfOk result (λ begun.
+            (begun, self.new) ≡ spec.begun catalogue.now self.old (Assign name.now value)) }
+        ensures err { OnErr result (self.new ≡ self.old) }
+    {
+        match self.located_cell(catalogue, name) {
+            Err(refusal) => Ok(refused(refusal)),
+            Ok(object) => {
+                self.put(alloc, object, value)?;
+                Ok(Begun::Said(Answer::Done))
+            }
+        }
+    }
+
+    fn update(&mut self, alloc: Global) -> Result<Begun, AllocError>
+        ensures begun { IfOk result (λ begun. (begun, self.new) ≡ spec.begun [] self.old Update) }
+        ensures err { OnErr result (self.new ≡ self.old) }
+    {
+        match &mut self.view {
+            None => Ok(refused(Refusal::not_attached())),
+            Some(view) => {
+                update_owned(alloc, view)?;
+                Ok(Begun::Said(Answer::Done))
             }
         }
     }
@@ -279,112 +244,143 @@ impl Known {
     fn commit(&self, alloc: Global) -> Result<Begun, AllocError>
         ensures { IfOk result (λ begun. (begun, self.now) ≡ spec.begun [] self.now Commit) }
     {
-        let Some(views) = &self.views else {
-            return Ok(Begun::Said(Answer::Refused(Refusal::not_attached())));
+        let Some(view) = &self.view else {
+            return Ok(refused(Refusal::not_attached()));
         };
-        let changes = staged_changes(alloc, views.as_slice())?;
+        let changes = view.changes()?;
         if changes.is_empty() {
             return Ok(Begun::Said(Answer::Done));
         }
         Ok(Begun::Ask(Entry::Commit {
             who: self.who,
             changes,
+            leave: List::new(alloc),
         }))
     }
 
-    fn show(&self, definitions: &Names, name: &Text) -> Begun
-        ensures { (result, self.now) ≡ spec.begun definitions.now self.now (Show name.now) }
+    /// Reads the one cell of an INTEGER variable without dimensions.
+    fn cell(&self, object: u16) -> Cell
+        requires { IsSomeAnd (spec.seen_in self.now object) (λ found. found.kind ≡ Variable Integer []) }
+        ensures { result ≡ spec.cell_in self.now object }
     {
-        match self.located(definitions, name) {
-            Err(refusal) => Begun::Said(Answer::Refused(refusal)),
-            Ok(view) => Begun::Said(Answer::Shown(view.private)),
+        match &self.view {
+            Some(view) => view.read(object, &no_slots()),
+            None => unreachable!(),
+        }
+    }
+
+    fn show(&self, catalogue: &Catalogue, name: &Text) -> Begun
+        requires { spec.Sees catalogue.now self.now }
+        ensures { (result, self.now) ≡ spec.begun catalogue.now self.now (Show name.now) }
+    {
+        match self.located_cell(catalogue, name) {
+            Err(refusal) => refused(refusal),
+            Ok(object) => Begun::Said(Answer::Shown(self.cell(object))),
         }
     }
 
     fn begin(
         &mut self,
         alloc: Global,
-        definitions: &Names,
+        catalogue: &Catalogue,
         command: &Command,
     ) -> Result<Begun, AllocError>
+        requires { spec.Sees catalogue.now self.old }
         ensures begun { IfOk result (λ begun.
-            (begun, self.new) ≡ spec.begun definitions.now self.old command.now) }
+            (begun, self.new) ≡ spec.begun catalogue.now self.old command.now) }
         ensures err { OnErr result (self.new ≡ self.old) }
-        ensures memory { OnErr result (command.now ≡ Commit) }
+        ensures memory { OnErr result (spec.TakesMemory command.now) }
     {
         match command {
             Command::Attach => Ok(self.attach()),
-            Command::Acquire(name) => Ok(self.acquire(definitions, name)),
-            Command::Assign { name, value } => Ok(self.assign(definitions, name, *value)),
-            Command::Update => Ok(self.update()),
+            Command::Acquire(name) => self.acquire(alloc, catalogue, name),
+            Command::Assign { name, value } => self.assign(alloc, catalogue, name, *value),
+            Command::Update => self.update(alloc),
             Command::Commit => self.commit(alloc),
-            Command::Show(name) => Ok(self.show(definitions, name)),
+            Command::Show(name) => Ok(self.show(catalogue, name)),
         }
     }
 
-    fn own(&mut self, asked: Option<u16>)
-        ensures { self.new ≡ spec.owning self.old asked }
+    fn attached(
+        &mut self,
+        alloc: Global,
+        catalogue: &Catalogue,
+        fresh: List<Fresh>,
+    ) -> Result<Answer, AllocError>
+        requires { spec.Allows catalogue.now self.old (Attached fresh) }
+        ensures finished { IfOk result (λ answer.
+            (answer, self.new) ≡ spec.finished_by catalogue.now [] self.old [] (Attached fresh)) }
+        ensures err { OnErr result (self.new ≡ self.old) }
     {
-        let Some(object) = asked else {
-            return;
-        };
-        if let Some(views) = &mut self.views {
-            own_view(views, object);
-        }
+        self.view = Some(View::attach(alloc, self.who, catalogue, fresh)?);
+        Ok(Answer::Done)
     }
 
-    fn committed(&mut self)
-        ensures { self.new
-            ≡ record self.old { views = option_map (map spec.committed_view) self.old.views } }
+    fn acquired(&mut self, asked: &List<u16>, fresh: List<Fresh>) -> Answer
+        requires { spec.Allows [] self.old (Acquired fresh) }
+        ensures { (result, self.new) ≡ spec.finished_by [] [] self.old asked.now (Acquired fresh) }
     {
-        if let Some(views) = &mut self.views {
-            commit_views(views);
+        if let Some(view) = &mut self.view {
+            view.own(asked, fresh);
         }
+        Answer::Done
+    }
+
+    fn resynced(&mut self, fresh: List<Fresh>) -> Answer
+        requires { spec.Allows [] self.old (Resynced fresh) }
+        ensures { (result, self.new) ≡ spec.finished_by [] [] self.old [] (Resynced fresh) }
+    {
+        if let Some(view) = &mut self.view {
+            view.take(fresh);
+        }
+        Answer::Done
+    }
+
+    fn committed(&mut self) -> Answer
+        ensures { (result, self.new) ≡ spec.finished_by [] [] self.old [] Committed }
+    {
+        if let Some(view) = &mut self.view {
+            view.committed();
+        }
+        Answer::Done
     }
 
     fn finish(
         &mut self,
         alloc: Global,
-        definitions: &[Text],
+        catalogue: &Catalogue,
         names: &[Text],
-        asked: Option<u16>,
-        reply: &Reply,
+        asked: &List<u16>,
+        reply: Reply,
     ) -> Result<Answer, AllocError>
+        requires { spec.Allows catalogue.now self.old reply }
         ensures finished { IfOk result (λ answer.
-            (answer, self.new) ≡ spec.finished_by definitions.now names.now self.old asked reply.now) }
-        ensures memory { reply.now ≡ NoMemory → IsErr result }
+            (answer, self.new) ≡ spec.finished_by catalogue.now names.now self.old asked.now reply) }
+        ensures memory { reply ≡ NoMemory → IsErr result }
         ensures err { OnErr result (self.new ≡ self.old) }
-        ensures needs { OnErr result (spec.MayWantMemory reply.now) }
+        ensures needs { OnErr result (spec.MayWantMemory reply) }
     {
         match reply {
-            Reply::Attached(fresh) => {
-                self.views = Some(views_of(alloc, fresh.as_slice())?);
-                Ok(Answer::Done)
-            }
-            Reply::Acquired => {
-                self.own(asked);
-                Ok(Answer::Done)
-            }
-            Reply::Committed => {
-                self.committed();
-                Ok(Answer::Done)
-            }
+            Reply::Attached(fresh) => self.attached(alloc, catalogue, fresh),
+            Reply::Acquired(fresh) => Ok(self.acquired(asked, fresh)),
+            Reply::Resynced(fresh) => Ok(self.resynced(fresh)),
+            Reply::Committed => Ok(self.committed()),
+            Reply::Released | Reply::Detached => Ok(Answer::Done),
             Reply::Owned { object, by } => Ok(Answer::Refused(Refusal::owned_by(
-                name_at(definitions, *object as usize),
-                name_at(names, *by as usize),
+                name_of(catalogue, object),
+                name_at(names, by as usize),
             ))),
             Reply::Newer { object, number } => Ok(Answer::Refused(Refusal::newer(
-                name_at(definitions, *object as usize),
-                *number,
+                name_of(catalogue, object),
+                number,
             ))),
-            Reply::Stranger { object } => Ok(Answer::Refused(Refusal::not_acquired(name_at(
-                definitions,
-                *object as usize,
+            Reply::Stranger { object } => Ok(Answer::Refused(Refusal::not_acquired(name_of(
+                catalogue, object,
             )))),
-            Reply::Worn { object } => Ok(Answer::Refused(Refusal::full(name_at(
-                definitions,
-                *object as usize,
-            )))),
+            Reply::Worn { object } => {
+                Ok(Answer::Refused(Refusal::full(name_of(catalogue, object))))
+            }
+            Reply::TooLarge { .. } => Ok(Answer::Refused(Refusal::too_large())),
             Reply::Fault => Ok(Answer::Refused(Refusal::disk_fault())),
             Reply::NoMemory => Err(AllocError),
         }
@@ -393,71 +389,77 @@ impl Known {
 
 impl Session {
     /// A session of this number. It isn't attached yet.
-    pub fn new(who: u32) -> Session
+    pub fn new(alloc: Global, who: u32) -> Session
         ensures { result ≡ spec.resting (spec.new_session who) }
     {
         Session {
             known: Known::new(who),
-            asked: None,
+            asked: List::new(alloc),
         }
     }
 
     /// Begins a command: the session answers it, or asks the shared state for an entry, whose reply
-    /// goes to `finish` (docs/LANGUAGE.md, "Statements"). `definitions` are the names of the objects
-    /// in order of definition.
+    /// goes to `finish` (docs/LANGUAGE.md, "Statements"). The view of an attached session is of the
+    /// objects of this catalogue.
     ///
     /// Refused are a name that isn't defined (1), then a session that isn't attached (15), or for
-    /// `AW ATTACH` one that is (16). The only error is want of memory, which leaves the session as
-    /// it was; `COMMIT` alone takes any.
+    /// `AW ATTACH` one that is (16), then an object that isn't kept (1), and where its cell is asked
+    /// for or assigned one that is no INTEGER variable without dimensions (1). The only error is want
+    /// of memory, which leaves the session as it was; `AW ATTACH` and `SHOW` take none.
     pub fn begin(
         &mut self,
         alloc: Global,
-        definitions: &Names,
+        catalogue: &Catalogue,
         command: &Command,
     ) -> Result<Begun, AllocError>
+        requires sees { spec.Sees catalogue.now self.old.known }
         ensures begun { IfOk result (λ begun.
-            (begun, self.new.known) ≡ spec.begun definitions.now self.old.known command.now) }
+            (begun, self.new.known) ≡ spec.begun catalogue.now self.old.known command.now) }
         ensures keeps { IfOk result (λ begun. self.new.asked ≡ spec.asked_by begun) }
         ensures err { OnErr result (self.new ≡ self.old) }
-        ensures memory { OnErr result (command.now ≡ Commit) }
+        ensures memory { OnErr result (spec.TakesMemory command.now) }
     {
-        let begun = self.known.begin(alloc, definitions, command)?;
-        self.asked = begun.asked();
+        let begun = self.known.begin(alloc, catalogue, command)?;
+        self.asked = begun.asked(alloc)?;
         Ok(begun)
     }
 
     /// Takes the reply to the entry that the session asked for, and answers the command
-    /// (docs/SHARING.md). `definitions` are the names of the objects in order of definition, and
-    /// `names` those of the sessions by their numbers. The session waits no more.
+    /// (docs/SHARING.md). The bodies that the reply hands over go into the view; they have the forms
+    /// of their definitions in this catalogue, and to a session that attaches one generation of each
+    /// kept object is handed over, in order of definition. `names` are those of the sessions by their
+    /// numbers. The session waits no more.
     ///
-    /// Refused are an object that another session owns (17), one with a newer generation (18), one
-    /// that the session doesn't own (19), one whose numbers are used up (22), and a commit in which
-    /// the disk failed (30), as the reply says; what the session knows stays as it was. The only error
-    /// is want of memory, in the reply or for the views of a session that attaches, which leaves what
-    /// the session knows as it was, too.
+    /// Refused are a commit whose record would be too long (14), an object that another session owns
+    /// (17), one with a newer generation (18), one that the session doesn't own (19), one whose
+    /// numbers are used up (22), and a commit in which the disk failed (30), as the reply says; what
+    /// the session knows stays as it was. The only error is want of memory, in the reply or for the
+    /// view of a session that attaches, which leaves what the session knows as it was, too.
     pub fn finish(
         &mut self,
         alloc: Global,
-        definitions: &[Text],
+        catalogue: &Catalogue,
         names: &[Text],
-        reply: &Reply,
+        reply: Reply,
     ) -> Result<Answer, AllocError>
+        requires allowed { spec.Allows catalogue.now self.old.known reply }
         ensures finished { IfOk result (λ answer.
-            (answer, self.new.known) ≡ spec.finished_by definitions.now names.now self.old.known self.old.asked reply.now) }
-        ensures rests { self.new.asked ≡ None }
-        ensures memory { reply.now ≡ NoMemory → IsErr result }
+            (answer, self.new.known) ≡ spec.finished_by catalogue.now names.now self.old.known self.old.asked reply) }
+        ensures rests { self.new.asked ≡ [] }
+        ensures memory { reply ≡ NoMemory → IsErr result }
         ensures err { OnErr result (self.new.known ≡ self.old.known) }
-        ensures needs { OnErr result (spec.MayWantMemory reply.now) }
+        ensures needs { OnErr result (spec.MayWantMemory reply) }
     {
-        let asked = self.asked;
-        self.asked = None;
-        self.known.finish(alloc, definitions, names, asked, reply)
+        let asked = mem::replace(&mut self.asked, List::new(alloc));
+        self.known.finish(alloc, catalogue, names, &asked, reply)
     }
 }
 
 #[cfg(test)]
 mod tests {
     use super::*;
+    use aw_cell::{Kind, is_name};
+    use aw_schema::{Def, DefKind};
     use ses_report::Detail;
     use std::test::Fail;
 
@@ -465,10 +467,33 @@ mod tests {
         Ok(Text::of(bytes).ok_or("no text")?)
     }
 
+    /// Defines an INTEGER variable.
+    fn is_defined(catalogue: &mut Catalogue, name: Text) -> bool {
+        let kind = DefKind::Variable {
+            kind: Kind::Int,
+            dimensions: no_slots(),
+        };
+        is_name(name.bytes()) && catalogue.check(Def { name, kind }).is_ok()
+    }
+
+    /// A catalogue of two INTEGER variables.
+    fn two(alloc: Global, first: Text, second: Text) -> Option<Catalogue> {
+        let mut catalogue = Catalogue::new(alloc);
+        let both = is_defined(&mut catalogue, first) & is_defined(&mut catalogue, second);
+        if both { Some(catalogue) } else { None }
+    }
+
     /// Whether a session that gets this reply refuses its command so.
-    fn is_refused(alloc: Global, texts: &[Text; 4], reply: &Reply, refusal: &Refusal) -> bool {
-        let [v, w, a, b] = texts;
-        match Session::new(0).finish(alloc, &[*v, *w], &[*a, *b], reply) {
+    fn is_refused(
+        alloc: Global,
+        catalogue: &Catalogue,
+        names: &[Text],
+        reply: Reply,
+        refusal: &Refusal,
+    ) -> bool
+        requires { spec.Allows catalogue.now (spec.new_session 0) reply }
+    {
+        match Session::new(alloc, 0).finish(alloc, catalogue, names, reply) {
             Ok(answer) => answer == Answer::Refused(*refusal),
             Err(_) => false,
         }
@@ -486,29 +511,53 @@ mod tests {
     #[test]
     fn refuses_by_the_reply(rt: HostRuntime) -> Result<(), Fail> {
         let (v, w, b) = (text(b"v")?, text(b"w")?, text(b"b")?);
-        let (alloc, texts) = (rt.alloc(), [v, w, text(b"a")?, b]);
+        let (alloc, names) = (rt.alloc(), [text(b"a")?, b]);
+        let catalogue = two(alloc, v, w).ok_or("two variables")?;
         let (owned, stranger) = (
             Reply::Owned { object: 0, by: 1 },
             Reply::Stranger { object: 1 },
         );
-        let all = is_refused(alloc, &texts, &owned, &refusal(17, Detail::Two(v, b)))
-            & is_refused(alloc, &texts, &stranger, &refusal(19, Detail::One(w)))
-            & is_refused(alloc, &texts, &Reply::Fault, &refusal(30, Detail::Nothing));
+        let all = is_refused(
+            alloc,
+            &catalogue,
+            &names,
+            owned,
+            &refusal(17, Detail::Two(v, b)),
+        ) & is_refused(
+            alloc,
+            &catalogue,
+            &names,
+            stranger,
+            &refusal(19, Detail::One(w)),
+        ) & is_refused(
+            alloc,
+            &catalogue,
+            &names,
+            Reply::Fault,
+            &refusal(30, Detail::Nothing),
+        );
         assert!(rt; all);
         Ok(())
     }
 
     #[test]
     fn refuses_by_the_number(rt: HostRuntime) -> Result<(), Fail> {
-        let (v, w, b) = (text(b"v")?, text(b"w")?, text(b"b")?);
-        let (alloc, texts) = (rt.alloc(), [v, w, text(b"a")?, b]);
+        let (alloc, v, w) = (rt.alloc(), text(b"v")?, text(b"w")?);
+        let catalogue = two(alloc, v, w).ok_or("two variables")?;
         let newer = Reply::Newer {
             object: 1,
             number: 5,
         };
         let worn = Reply::Worn { object: 0 };
-        let all = is_refused(alloc, &texts, &newer, &refusal(18, Detail::Count(w, 5)))
-            & is_refused(alloc, &texts, &worn, &refusal(22, Detail::One(v)));
+        let long = Reply::TooLarge { bytes: 67_108_865 };
+        let all = is_refused(
+            alloc,
+            &catalogue,
+            &[],
+            newer,
+            &refusal(18, Detail::Count(w, 5)),
+        ) & is_refused(alloc, &catalogue, &[], worn, &refusal(22, Detail::One(v)))
+            & is_refused(alloc, &catalogue, &[], long, &refusal(14, Detail::Nothing));
         assert!(rt; all);
         Ok(())
     }
@@ -516,8 +565,8 @@ mod tests {
     fn needs_send_and_sync<T: Send + Sync + Drop>(_: T) {}
 
     #[test]
-    fn goes_to_another_thread() {
-        needs_send_and_sync(Session::new(1));
+    fn goes_to_another_thread(rt: HostRuntime) {
+        needs_send_and_sync(Session::new(rt.alloc(), 1));
         needs_send_and_sync(Begun::Said(Answer::Done));
         needs_send_and_sync(Command::Update);
     }

@@ -3,4 +3,4 @@ use Rattle.aw_store.specs.Replaying.{bytes_of, AreReplayed}
 use Rattle.aw_store.proofs.replay.replay.Given as goal
 
 abbrev pub invariant-loop-payload : goal.invariant-loop-payload
-invariant-loop-payload l = AreReplayed (take l.payload-index (map bytes_of l.payloads)) l.replay.names l.replay.objects.items
+invariant-loop-payload l = AreReplayed (take l.payload-index (map bytes_of l.payloads)) l.replayed.catalogue l.replayed.shared

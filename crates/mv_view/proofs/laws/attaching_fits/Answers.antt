@@ -1,5 +1,5 @@
 use Rattle.aw_body.specs.KeptBodies.{bodies_from}
-use Rattle.mv_view.proofs.Committing.{attaching}
+use Rattle.mv_view.proofs.callers.Committing.{attaching}
 use Rattle.mv_view.proofs.laws.attaching_fits.Goals as goal
 
 pub returns : goal.returns

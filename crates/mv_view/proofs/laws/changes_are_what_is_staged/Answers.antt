@@ -1,4 +1,4 @@
-use Rattle.mv_view.proofs.Changes.{changes-tell}
+use Rattle.mv_view.proofs.callers.Changes.{changes-tell}
 use Rattle.mv_view.proofs.laws.changes_are_what_is_staged.Goals as goal
 
 pub returns : goal.returns

@@ -1,4 +1,4 @@
-use Rattle.mv_view.proofs.Changes.{may-commit}
+use Rattle.mv_view.proofs.callers.Changes.{may-commit}
 use Rattle.mv_view.proofs.laws.changes_may_be_committed.Goals as goal
 
 pub returns : goal.returns

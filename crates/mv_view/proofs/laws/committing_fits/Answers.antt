@@ -1,4 +1,4 @@
-use Rattle.mv_view.proofs.Committing.{committing}
+use Rattle.mv_view.proofs.callers.Committing.{committing}
 use Rattle.mv_view.proofs.laws.committing_fits.Goals as goal
 
 pub returns : goal.returns

@@ -1,4 +1,4 @@
-use Rattle.mv_view.proofs.Changes.{nothing-left}
+use Rattle.mv_view.proofs.callers.Changes.{nothing-left}
 use Rattle.mv_view.proofs.laws.nothing_is_left_staged.Goals as goal
 
 pub returns : goal.returns

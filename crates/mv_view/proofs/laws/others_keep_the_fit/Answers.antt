@@ -1,5 +1,5 @@
 use Rattle.aw_body.specs.KeptBodies.{bodies_from}
-use Rattle.mv_view.proofs.Committing.{others-fit}
+use Rattle.mv_view.proofs.callers.Committing.{others-fit}
 use Rattle.mv_view.proofs.laws.others_keep_the_fit.Goals as goal
 
 pub returns : goal.returns

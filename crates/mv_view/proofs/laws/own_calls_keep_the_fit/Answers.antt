@@ -1,5 +1,5 @@
 use Rattle.aw_body.specs.KeptBodies.{bodies_from}
-use Rattle.mv_view.proofs.Fitting.{own-calls}
+use Rattle.mv_view.proofs.callers.Fitting.{own-calls}
 use Rattle.mv_view.proofs.laws.own_calls_keep_the_fit.Goals as goal
 
 pub returns : goal.returns

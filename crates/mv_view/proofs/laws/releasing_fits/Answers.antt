@@ -1,5 +1,5 @@
 use Rattle.aw_body.specs.KeptBodies.{bodies_from}
-use Rattle.mv_view.proofs.Committing.{releasing}
+use Rattle.mv_view.proofs.callers.Committing.{releasing}
 use Rattle.mv_view.proofs.laws.releasing_fits.Goals as goal
 
 pub returns : goal.returns

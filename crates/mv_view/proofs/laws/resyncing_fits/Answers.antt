@@ -1,5 +1,5 @@
 use Rattle.aw_body.specs.KeptBodies.{bodies_from}
-use Rattle.mv_view.proofs.Fitting.{resyncing}
+use Rattle.mv_view.proofs.callers.Fitting.{resyncing}
 use Rattle.mv_view.proofs.laws.resyncing_fits.Goals as goal
 
 pub returns : goal.returns

@@ -1,4 +1,4 @@
-use Rattle.mv_view.proofs.Changes.{revert-back}
+use Rattle.mv_view.proofs.callers.Changes.{revert-back}
 use Rattle.mv_view.proofs.laws.revert_gives_back.Goals as goal
 
 pub returns : goal.returns

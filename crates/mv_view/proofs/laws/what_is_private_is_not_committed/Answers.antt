@@ -1,6 +1,6 @@
 use Rattle.std.proofs.Common.{refl}
 use Rattle.mv_view.specs.Rules as rule
-use Rattle.mv_view.proofs.Changes.{changes-only, changes-listed}
+use Rattle.mv_view.proofs.callers.Changes.{changes-only, changes-listed}
 use Rattle.mv_view.proofs.laws.what_is_private_is_not_committed.Goals as goal
 
 pub returns : goal.returns

@@ -1,5 +1,5 @@
 use Rattle.std.proofs.Common.{rules}
-use Rattle.script_disk.proofs.Completing.{dump_completes, dump_explains}
+use Rattle.script_disk.proofs.callers.Completing.{dump_completes, dump_explains}
 use Rattle.script_disk.proofs.dumping.dump.Goals as goal
 
 pub returns-clause-completes : goal.returns-clause-completes

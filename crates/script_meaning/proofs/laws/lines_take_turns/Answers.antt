@@ -1,4 +1,4 @@
-use Rattle.script_meaning.proofs.TakingTurns.{lines_take_turns}
+use Rattle.script_meaning.proofs.callers.TakingTurns.{lines_take_turns}
 use Rattle.script_meaning.proofs.laws.lines_take_turns.Goals as goal
 
 pub returns : goal.returns

@@ -1,41 +1,27 @@
-use Rattle.std.proofs.Common.{◌≡◌, ap, ap₂, ◌∙◌, ◌++◌, ◌∷◌, [], false}
-use Rattle.mv_core.specs.declared.entry.Entry.{Entry}
-use Rattle.mv_core.specs.declared.entry.Reply.{Reply}
-use Rattle.mv_core.specs.Integers.{integers}
-use Rattle.mv_core.specs.SharedStep.{committed_from, objects_after, writes}
-use Rattle.aw_store.specs.Replay.{commit_record}
-use Rattle.aw_store.proofs.Commits.{granted-written, committable, replayable, StandFor-committed, StandFor-unwritten}
+use Rattle.std.proofs.Common.{inl, refl}
+use Rattle.aw_journal.specs.Passed.{Passed-none}
+use Rattle.aw_store.proofs.callers.Commits.{StandFor-answered}
+use Rattle.aw_store.proofs.Steps.{acts-shared, never-fault}
+use Rattle.aw_store.proofs.Writing.{state_of}
 use Rattle.aw_store.proofs.store.Store.answer.Goals as goal
-
-pub write_commit-requires-clause-committable : goal.write_commit-requires-clause-committable
-write_commit-requires-clause-committable g c =
-    let store = c.self.inside in
-    let changes = c.in-Some.changes.now in
-    let granted = granted-written store.shared c.args.entry.now c.in-Ok.ready.entry c.in-Ok.ready.reply c.in-Some.ensures.0 changes c.in-Ok.ensures c.in-Some.ensures.1 c.in-Some.ensures.2 in
-    committable store.log.records store.names store.shared c.self.invariant c.in-Some.ensures.0 changes granted.some granted.granted
-
-pub write_commit-requires-clause-replayable : goal.write_commit-requires-clause-replayable
-write_commit-requires-clause-replayable g c =
-    let store = c.self.inside in
-    let changes = c.in-Some.changes.now in
-    let granted = granted-written store.shared c.args.entry.now c.in-Ok.ready.entry c.in-Ok.ready.reply c.in-Some.ensures.0 changes c.in-Ok.ensures c.in-Some.ensures.1 c.in-Some.ensures.2 in
-    replayable store.log.records store.names store.shared c.self.invariant c.in-Some.ensures.0 changes granted.some granted.granted
 
 pub invariant_of-self : goal.invariant_of-self
 invariant_of-self g c =
     let store = c.self.inside in
-    let changes = c.in-Some.changes.now in
-    let granted = granted-written store.shared c.args.entry.now c.in-Ok.ready.entry c.in-Ok.ready.reply c.in-Some.ensures.0 changes c.in-Ok.ensures c.in-Some.ensures.1 c.in-Some.ensures.2 in
-    let can = replayable store.log.records store.names store.shared c.self.invariant c.in-Some.ensures.0 changes granted.some granted.granted in
-    let stand = StandFor-committed store.log.records store.names store.shared c.self.invariant changes can in
-    let written : c.write_commit.new.log.records ≡ store.log.records ++ commit_record changes ∷ [] = ap (λ log. log.records) c.in-Ok-write_commit.ensures.ok in
-    let after : c.settle.new.self ≡ committed_from integers 0 store.shared changes = c.settle.ensures.objects ∙ ap₂ (λ (entry : Entry) (reply : Reply). objects_after store.shared entry reply) granted.entry_is granted.reply_is in
-    rw (written, after) stand
+    StandFor-answered store.log.records store.catalogue store.shared c.self.invariant c.args.entry.now c.act.result c.act.new.self c.in-None.ensures c.act.ensures.table
 
-pub invariant_of-self-in-None : goal.invariant_of-self-in-None
-invariant_of-self-in-None g c =
+pub returns-in-None-clause-acts : goal.returns-in-None-clause-acts
+returns-in-None-clause-acts g c =
     let store = c.self.inside in
-    let ready = c.in-Ok.ready in
-    let same : ready.entry ≡ c.args.entry.now = c.in-Ok.ensures.0 in
-    let unwritten : writes ready.entry ready.reply ≡ false = ap (λ entry. writes entry ready.reply) same ∙ c.in-None.ensures in
-    rw c.settle-in-None.ensures.objects (StandFor-unwritten store.log.records store.names store.shared c.self.invariant ready.entry ready.reply unwritten)
+    rw (← c.self.view_is) (acts-shared c.args.entry.now (state_of store.log store.shared) (state_of store.log c.act.new.self) c.act.result c.in-None.ensures c.act.ensures.table refl)
+
+pub returns-in-None-clause-moments : goal.returns-in-None-clause-moments
+returns-in-None-clause-moments g c =
+    let leaves = rw (← c.self.view_is) at c.requires in
+    rw (← c.self.view_is) (Passed-none (λ image left. inl (leaves image left)))
+
+pub returns-in-None-clause-cause : goal.returns-in-None-clause-cause
+returns-in-None-clause-cause g c = λ is.
+    let store = c.self.inside in
+    let acted = acts-shared c.args.entry.now (state_of store.log store.shared) (state_of store.log c.act.new.self) c.act.result c.in-None.ensures c.act.ensures.table refl in
+    absurd (never-fault c.args.entry.now (state_of store.log store.shared) (state_of store.log c.act.new.self) c.act.result c.in-None.ensures acted is)

@@ -9,8 +9,8 @@ use Rattle.aw_schema.specs.declared.definition.DefKind.{DefKind}
 use Rattle.std.specs.Prelude.{map, ℕ}
 use Rattle.aw_body.specs.declared.change.Fresh.{Fresh}
 use Rattle.mv_view.specs.ViewState.{HaveForms, kind_of, kinds_of}
-use Rattle.mv_view.proofs.Each.{each-each}
-use Rattle.mv_view.proofs.Fitting.{kinds-each, kind-cond}
+use Rattle.mv_view.proofs.callers.Each.{each-each}
+use Rattle.mv_view.proofs.callers.Fitting.{kinds-each, kind-cond}
 use Rattle.mv_view.proofs.view.View.own.Goals as goal
 
 kinds-owned : (objects : List (Option ObjectView)) (list : List ℕ) → map (option_map kind_of) (each_from 0 (listed list rule.owning) objects) ≡ map (option_map kind_of) objects

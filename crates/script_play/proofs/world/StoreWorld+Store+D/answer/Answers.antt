@@ -13,6 +13,9 @@ pub returns-in-Malformed-clause-responds : goal.returns-in-Malformed-clause-resp
 returns-in-Malformed-clause-responds g c =
     form_as g.D.Disk.faults g.D.Disk.clock g.D.Disk.crash c.args.line.now (line_form c.args.line.now) _ (Ok (Some c.refused.result)) c.args.self.now c.args.self.now (sym c.in-Ok.ensures ∙ c.in-Malformed.is) (malformed_answers g.D.Disk.faults g.D.Disk.clock g.D.Disk.crash c.args.line.now c.refused.result c.args.self.now (c.refused.ensures ∙ ap refused_response c.no_session.ensures))
 
+pub define-requires : goal.define-requires
+define-requires g c = subst DefinesName (sym c.in-Ok.ensures ∙ c.in-Definition.is) (line_defines-name c.args.line.now)
+
 pub returns-in-Ok-define-clause-responds : goal.returns-in-Ok-define-clause-responds
 returns-in-Ok-define-clause-responds g c =
     let is = sym c.in-Ok.ensures ∙ c.in-Definition.is in

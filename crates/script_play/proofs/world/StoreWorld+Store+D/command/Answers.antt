@@ -1,7 +1,11 @@
 use Rattle.std.proofs.Common.{◌∙◌, ap, List, ℕ}
 use Rattle.ses_step.specs.Sessions.{name_at}
-use Rattle.script_play.proofs.Lines.{command_none, command_some, command_wants}
+use Rattle.script_play.specs.StoreWorlds.{definitions_in}
+use Rattle.script_play.proofs.Lines.{see-held, command_none, command_some, command_wants}
 use Rattle.script_play.proofs.world.StoreWorld+Store+D.command.Goals as goal
+
+pub take_turn_at-requires-clause-sees : goal.take_turn_at-requires-clause-sees
+take_turn_at-requires-clause-sees g c = see-held (definitions_in c.args.self.now.store) c.args.self.now.sessions c.args.who c.args.who c.requires.seen
 
 pub returns-in-Ok-clause-ok : goal.returns-in-Ok-clause-ok
 returns-in-Ok-clause-ok g c =

@@ -1,15 +1,27 @@
-use Rattle.std.proofs.Common.{◌∙◌, ap, Err}
+use Rattle.std.proofs.Common.{◌≤◌, ◌∙◌, ap, subst, sym, Err, List, IsTrue}
+use Rattle.aw_schema.specs.declared.definition.Def.{Def}
+use Rattle.aw_schema.specs.RecordLength.{record_len}
+use Rattle.aw_store.specs.Replay.{are_replayed}
 use Rattle.script_play.proofs.Opening.{opens_by, fails_by}
+use Rattle.script_play.proofs.Writable.{record_len-below, replayed-all}
 use Rattle.script_play.proofs.world.StoreWorld+Store+D.open.Goals as goal
 
-pub returns-in-Ok-define : goal.returns-in-Ok-define
-returns-in-Ok-define g c = record {
-  opens = opens_by g.D.Disk.faults g.D.Disk.clock g.D.Disk.crash c.args.self.now _ c.in-Ok.names (c.in-Ok.ensures ∙ c.as_slice.ensures) c.define.ensures.moments c.define.ensures.images c.define.ensures.later c.stands.ensures.replayable c.in-Ok-define.ensures.ok;
+pub define-requires-clause-size : goal.define-requires-clause-size
+define-requires-clause-size g c =
+    subst (λ (definitions : List Def). record_len definitions ≤ 67108864) (sym c.replace-drafted.ensures.value) (record_len-below c.args.self.now.drafted (c.requires.sound.writable c.requires.unopened))
+
+pub define-requires-clause-kinds : goal.define-requires-clause-kinds
+define-requires-clause-kinds g c =
+    subst (λ (definitions : List Def). IsTrue (are_replayed definitions)) (sym c.replace-drafted.ensures.value) (replayed-all c.args.self.now.drafted (c.requires.sound.writable c.requires.unopened))
+
+pub returns-in-Ok : goal.returns-in-Ok
+returns-in-Ok g c = record {
+  opens = opens_by g.D.Disk.faults g.D.Disk.clock g.D.Disk.crash c.args.self.now c.define.new.self c.replace-drafted.result c.replace-drafted.new.dest c.replace-drafted.ensures.value (c.replace-drafted.ensures.after ∙ c.new.ensures) c.define.ensures.moments c.define.ensures.images c.define.ensures.later c.stands.ensures.replayable c.in-Ok.ensures.ok;
 }
 
 pub returns-in-Err-DiskFault : goal.returns-in-Err-DiskFault
 returns-in-Err-DiskFault g c =
     let is = c.in-Err-DiskFault.is ∙ ap Err c.in-Err-DiskFault.field-0-is in
     record {
-      opens = fails_by g.D.Disk.faults g.D.Disk.clock g.D.Disk.crash c.args.self.now _ c.in-Ok.names (c.in-Ok.ensures ∙ c.as_slice.ensures) c.define.ensures.moments c.define.ensures.images c.define.ensures.later (c.define.ensures.fault is) (c.define.ensures.cause is);
+      opens = fails_by g.D.Disk.faults g.D.Disk.clock g.D.Disk.crash c.args.self.now c.define.new.self c.replace-drafted.result c.replace-drafted.new.dest c.replace-drafted.ensures.value (c.replace-drafted.ensures.after ∙ c.new.ensures) c.define.ensures.moments c.define.ensures.images c.define.ensures.later (c.define.ensures.fault is) (c.define.ensures.cause is);
     }

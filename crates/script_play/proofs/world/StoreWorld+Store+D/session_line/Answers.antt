@@ -1,7 +1,10 @@
 use Rattle.std.proofs.Common.{◌∙◌, ap}
 use Rattle.script_play.specs.StoreWorlds.{refused_response}
-use Rattle.script_play.proofs.Lines.{session_full, session_some, session_wants}
+use Rattle.script_play.proofs.Lines.{placed_seen, session_full, session_some, session_wants}
 use Rattle.script_play.proofs.world.StoreWorld+Store+D.session_line.Goals as goal
+
+pub command-requires-clause-seen : goal.command-requires-clause-seen
+command-requires-clause-seen g c = placed_seen g.D.Disk.faults g.D.Disk.clock g.D.Disk.crash c.args.name c.args.self.now c.add_session.new.self c.in-Ok.ensures.added c.requires.seen
 
 pub returns-then-who-ge-MOST_SESSIONS-clause-ok : goal.returns-then-who-ge-MOST_SESSIONS-clause-ok
 returns-then-who-ge-MOST_SESSIONS-clause-ok g c =

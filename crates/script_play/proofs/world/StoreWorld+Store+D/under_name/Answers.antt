@@ -1,4 +1,4 @@
-use Rattle.script_play.proofs.Lines.{closes_open, closes_paired, named_answers, named_wants}
+use Rattle.script_play.proofs.Lines.{closes_open, closes_paired, closes_seen, named_answers, named_wants}
 use Rattle.script_play.proofs.world.StoreWorld+Store+D.under_name.Goals as goal
 
 pub session_line-requires-clause-paired : goal.session_line-requires-clause-paired
@@ -6,6 +6,9 @@ session_line-requires-clause-paired g c = closes_paired g.D.Disk.faults g.D.Disk
 
 pub session_line-requires-clause-closed : goal.session_line-requires-clause-closed
 session_line-requires-clause-closed g c = closes_open g.D.Disk.faults g.D.Disk.clock g.D.Disk.crash c.args.self.now c.close.new.self c.in-Ok.ensures.closes
+
+pub session_line-requires-clause-seen : goal.session_line-requires-clause-seen
+session_line-requires-clause-seen g c = closes_seen g.D.Disk.faults g.D.Disk.clock g.D.Disk.crash c.args.self.now c.close.new.self c.in-Ok.ensures.closes c.requires
 
 pub returns-in-Ok-session_line : goal.returns-in-Ok-session_line
 returns-in-Ok-session_line g c = record {

@@ -1,0 +1,7 @@
+use Rattle.std.proofs.Common.{◌≡◌, drop}
+use Rattle.mv_core.specs.Effects.{each, take_listed}
+use Rattle.mv_core.proofs.settling.take.Given as goal
+
+abbrev pub invariant-loop-object : goal.invariant-loop-object
+invariant-loop-object l =
+    each (take_listed l.who (drop l.object-index l.listed)) l.objects ≡ each (take_listed l.who l.listed) l.initial.objects

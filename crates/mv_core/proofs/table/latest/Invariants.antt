@@ -1,6 +1,0 @@
-use Rattle.std.proofs.Common.{◌≡◌, ◌++◌, drop}
-use Rattle.mv_core.specs.SharedStep.{fresh_from}
-use Rattle.mv_core.proofs.table.latest.Given as goal
-
-abbrev pub invariant-loop-at : goal.invariant-loop-at
-invariant-loop-at l = l.latest.items ++ fresh_from l.at (drop l.at l.objects) ≡ fresh_from 0 l.objects

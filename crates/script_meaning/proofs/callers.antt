@@ -1,0 +1,8 @@
+-- Lemmas that are offered to the crates above.
+pub mod Acting
+pub mod AllDone
+pub mod AssignedIntegers
+pub mod Faring
+pub mod Standing
+pub mod StoreRuns
+pub mod TakingTurns

@@ -1,0 +1,61 @@
+-- What a command begins with, taken apart once for all laws.
+use Rattle.std.specs.Prelude.{ℕ, ℤ, ◌≡◌, List, [], ◌∷◌, Option, Some, None, Result, Ok, Err}
+use Rattle.std.proofs.Common.{refl}
+use Rattle.aw_cell.specs.declared.cell.Cell.TheVariants.{Int}
+use Rattle.aw_body.specs.declared.change.Change.{Change}
+use Rattle.aw_schema.specs.declared.definition.Def.{Def}
+use Rattle.mv_core.specs.declared.entry.Entry.TheVariants as entry
+use Rattle.mv_view.specs.ViewState.{ViewState, owned_objects}
+use Rattle.mv_view.specs.Rules as rule
+use Rattle.ses_report.specs.declared.refusal.Refusal.{Refusal}
+use Rattle.ses_report.specs.Refusals.{not_attached, already_attached}
+use Rattle.ses_step.specs.declared.line.Command.{Command}
+use Rattle.ses_step.specs.declared.line.Command.TheVariants as command
+use Rattle.ses_step.specs.declared.answer.Answer.{Answer}
+use Rattle.ses_step.specs.declared.answer.Answer.TheVariants.{Done, Shown, Refused}
+use Rattle.ses_step.specs.declared.session.Begun.{Begun}
+use Rattle.ses_step.specs.declared.session.Begun.TheVariants.{Said, Ask}
+use Rattle.ses_step.specs.declared.session.Known.{Known}
+use Rattle.ses_step.specs.Sessions.{begun, located, located_cell, generation_in, commit_asked, with_cell, cell_in}
+
+module _ (P : Command → Begun × Known → Type 0) (definitions : List Def) (s : Known) (said : (line : Command) (answer : Answer) → P line (Said answer, s)) where
+  commit-cases : ((change : Change) (changes : List Change) → P command.Commit (Ask (entry.Commit s.who (change ∷ changes) []), s)) → (changes : List Change) → P command.Commit (commit_asked s changes)
+  commit-cases asked [] = said command.Commit Done
+  commit-cases asked (change ∷ changes) = asked change changes
+
+  pub begun-cases : P command.Attach (Ask (entry.Attach s.who), s)
+      → ((name : List ℕ) (object : ℕ) → located definitions s name ≡ Ok object → P (command.Acquire name) (Ask (entry.Acquire s.who (generation_in s object ∷ []) [] []), s))
+      → ((name : List ℕ) (value : ℤ) (object : ℕ) → located_cell definitions s name ≡ Ok object → P (command.Assign name value) (Said Done, with_cell s object (Int value)))
+      → ((view : ViewState) → s.view ≡ Some view → P command.Update (Said Done, record s { view = Some (rule.updated view (owned_objects view)) }))
+      → ((change : Change) (changes : List Change) → P command.Commit (Ask (entry.Commit s.who (change ∷ changes) []), s))
+      → (line : Command) → P line (begun definitions s line)
+  begun-cases attaches acquires assigns updates commits command.Attach = by_view s.view
+    where
+      by_view : (view : Option ViewState) → P command.Attach (elim view [ None ↦ (Ask (entry.Attach s.who), s) | Some v ↦ (Said (Refused already_attached), s) ])
+      by_view None = attaches
+      by_view (Some view) = said command.Attach (Refused already_attached)
+  begun-cases attaches acquires assigns updates commits (command.Acquire name) = by_located (located definitions s name) refl
+    where
+      by_located : (found : Result ℕ Refusal) → located definitions s name ≡ found → P (command.Acquire name) (elim found [ Err refusal ↦ (Said (Refused refusal), s) | Ok object ↦ (Ask (entry.Acquire s.who (generation_in s object ∷ []) [] []), s) ])
+      by_located (Err refusal) is = said (command.Acquire name) (Refused refusal)
+      by_located (Ok object) is = acquires name object is
+  begun-cases attaches acquires assigns updates commits (command.Assign name value) = by_located (located_cell definitions s name) refl
+    where
+      by_located : (found : Result ℕ Refusal) → located_cell definitions s name ≡ found → P (command.Assign name value) (elim found [ Err refusal ↦ (Said (Refused refusal), s) | Ok object ↦ (Said Done, with_cell s object (Int value)) ])
+      by_located (Err refusal) is = said (command.Assign name value) (Refused refusal)
+      by_located (Ok object) is = assigns name value object is
+  begun-cases attaches acquires assigns updates commits command.Update = by_view s.view refl
+    where
+      by_view : (view : Option ViewState) → s.view ≡ view → P command.Update (elim view [ None ↦ (Said (Refused not_attached), s) | Some v ↦ (Said Done, record s { view = Some (rule.updated v (owned_objects v)) }) ])
+      by_view None is = said command.Update (Refused not_attached)
+      by_view (Some view) is = updates view is
+  begun-cases attaches acquires assigns updates commits command.Commit = by_view s.view
+    where
+      by_view : (view : Option ViewState) → P command.Commit (elim view [ None ↦ (Said (Refused not_attached), s) | Some v ↦ commit_asked s (rule.changes v) ])
+      by_view None = said command.Commit (Refused not_attached)
+      by_view (Some view) = commit-cases commits (rule.changes view)
+  begun-cases attaches acquires assigns updates commits (command.Show name) = by_located (located_cell definitions s name)
+    where
+      by_located : (found : Result ℕ Refusal) → P (command.Show name) (elim found [ Err refusal ↦ (Said (Refused refusal), s) | Ok object ↦ (Said (Shown (cell_in s object)), s) ])
+      by_located (Err refusal) = said (command.Show name) (Refused refusal)
+      by_located (Ok object) = said (command.Show name) (Shown (cell_in s object))

@@ -1,0 +1,116 @@
+-- What a view has of the objects of its definitions.
+use Rattle.std.specs.Prelude.{ℕ, zero, suc, ◌≡◌, ◌==◌, ◌||◌, Bool, true, false, cond, List, [], ◌∷◌, map, Option, Some, None, IfSome, IsSome, is_some, slice_get}
+use Rattle.std.specs.Option.{IsSomeAnd, option_map, option_and_then}
+use Rattle.std.proofs.Common.{◌∙◌, ap, sym, refl, subst, arith, eq-eqb}
+use Rattle.aw_cell.specs.declared.cell.Kind.TheVariants.{Num, Int, Text, Bool as Truth, Slot}
+use Rattle.aw_schema.specs.declared.definition.Def.{Def}
+use Rattle.aw_schema.specs.declared.definition.DefKind.{DefKind}
+use Rattle.aw_schema.specs.declared.definition.DefKind.TheVariants.{Dimension, Relation, Valueset, Variable, Formula, Program, Aggmap}
+use Rattle.aw_schema.specs.Definitions.{is_kept}
+use Rattle.mv_view.specs.Each.{object_in, names, passes}
+use Rattle.mv_view.specs.ViewState.{ObjectView, ViewState, object_of, kind_of, kinds_of, kept_kind, kept_kinds, is_owned, owned_objects, AreOwned}
+use Rattle.mv_view.proofs.callers.Each.{names-numbers}
+use Rattle.ses_step.specs.declared.session.Known.{Known}
+use Rattle.ses_step.specs.Sessions.{Sees, seen_in, is_single, is_single_at}
+
+-- ---- definitions
+
+mapped : {X Y : Type 0} (f : X → Y) (xs : List (Option X)) (object : ℕ) → object_in (map (option_map f) xs) object ≡ option_map f (object_in xs object)
+mapped f [] object = refl
+mapped f (x ∷ xs) zero = refl
+mapped f (x ∷ xs) (suc object) = mapped f xs object
+
+kept-at : (definitions : List Def) (object : ℕ) → object_in (kept_kinds definitions) object ≡ option_and_then kept_kind (slice_get definitions object)
+kept-at [] object = refl
+kept-at (def ∷ definitions) zero = refl
+kept-at (def ∷ definitions) (suc object) = kept-at definitions object
+
+module _ (view : ViewState) (definitions : List Def) (same : kinds_of view ≡ kept_kinds definitions) (object : ℕ) where
+  kind-at : option_map kind_of (object_of view object) ≡ option_and_then kept_kind (slice_get definitions object)
+  kind-at = mapped' ∙ ap (λ kinds. object_in kinds object) same ∙ kept-at definitions object
+    where
+      mapped' : option_map kind_of (object_of view object) ≡ object_in (kinds_of view) object
+      mapped' = sym (mapped kind_of view.objects object)
+
+  -- an object of the definitions is seen where it is kept
+  pub seen-defined : (def : Def) → slice_get definitions object ≡ Some def → is_kept def.kind ≡ is_some (object_of view object)
+  seen-defined def is = by_kept (is_kept def.kind) (object_of view object) (kind-at ∙ ap (option_and_then kept_kind) is)
+    where
+      by_kept : (b : Bool) (found : Option ObjectView) → option_map kind_of found ≡ cond b (Some def.kind) None → b ≡ is_some found
+      by_kept true None e = cc
+      by_kept true (Some one) e = refl
+      by_kept false None e = refl
+      by_kept false (Some one) e = cc
+
+  pub seen-undefined : slice_get definitions object ≡ None → false ≡ is_some (object_of view object)
+  seen-undefined is = by_found (object_of view object) (kind-at ∙ ap (option_and_then kept_kind) is)
+    where
+      by_found : (found : Option ObjectView) → option_map kind_of found ≡ None → false ≡ is_some found
+      by_found None e = refl
+      by_found (Some one) e = cc
+
+  -- what is seen has the definition's kind
+  pub kind-seen : (found : ObjectView) (def : Def) → object_of view object ≡ Some found → slice_get definitions object ≡ Some def → found.kind ≡ def.kind
+  kind-seen found def there is = by_kept (is_kept def.kind) (sym (ap (option_map kind_of) there) ∙ kind-at ∙ ap (option_and_then kept_kind) is)
+    where
+      by_kept : (b : Bool) → Some found.kind ≡ cond b (Some def.kind) None → found.kind ≡ def.kind
+      by_kept true e = cc
+      by_kept false e = cc
+
+-- ---- INTEGER variables without dimensions
+
+single-kind : (kind : DefKind) → is_single kind ≡ true → kind ≡ Variable Int []
+single-kind (Variable Int []) is = refl
+single-kind (Variable Int (slot ∷ slots)) is = cc
+single-kind (Variable Num dimensions) is = cc
+single-kind (Variable Text dimensions) is = cc
+single-kind (Variable Truth dimensions) is = cc
+single-kind (Variable Slot dimensions) is = cc
+single-kind Dimension is = cc
+single-kind (Relation target base) is = cc
+single-kind (Valueset dimension) is = cc
+single-kind (Formula text) is = cc
+single-kind (Program text) is = cc
+single-kind (Aggmap text) is = cc
+
+abbrev single_def : Option Def → Bool
+single_def found = elim found [ None ↦ false | Some def ↦ is_single def.kind ]
+
+single-in : (view : ViewState) (definitions : List Def) → kinds_of view ≡ kept_kinds definitions → (object : ℕ) (found : Option ObjectView) (def : Option Def)
+    → object_of view object ≡ found → slice_get definitions object ≡ def → IsSome found → single_def def ≡ true → IsSomeAnd found (λ one. one.kind ≡ Variable Int [])
+single-in view definitions same object None def there is some single = cc
+single-in view definitions same object (Some found) None there is some single = cc
+single-in view definitions same object (Some found) (Some def) there is some single =
+    kind-seen view definitions same object found def there is ∙ single-kind def.kind single
+
+single-of : (definitions : List Def) (object : ℕ) (view : Option ViewState) → IfSome view (λ v. kinds_of v ≡ kept_kinds definitions)
+    → IsSome (elim view [ None ↦ None | Some v ↦ object_of v object ]) → is_single_at definitions object ≡ true
+    → IsSomeAnd (elim view [ None ↦ None | Some v ↦ object_of v object ]) (λ found. found.kind ≡ Variable Int [])
+single-of definitions object None sees some single = cc
+single-of definitions object (Some view) sees some single =
+    single-in view definitions sees object (object_of view object) (slice_get definitions object) refl refl some single
+
+-- the object that a session sees is the variable that is defined
+pub single-seen : (definitions : List Def) (s : Known) (object : ℕ) → Sees definitions s → IsSome (seen_in s object) → is_single_at definitions object ≡ true → IsSomeAnd (seen_in s object) (λ found. found.kind ≡ Variable Int [])
+single-seen definitions s object sees some single = single-of definitions object s.view sees some single
+
+-- ---- the objects that a session owns
+
+owned-passes : (found : Option ObjectView) → passes is_owned found ≡ true → IsSomeAnd found (λ one. one.owned ≡ true)
+owned-passes None is = cc
+owned-passes (Some one) is = is
+
+or-right : (a b : Bool) → b ≡ true → (a || b) ≡ true
+or-right true b is = refl
+or-right false b is = is
+
+owned-named : (view : ViewState) (those : List ℕ) → ((object : ℕ) → names those object ≡ true → passes is_owned (object_of view object) ≡ true) → AreOwned view those
+owned-named view [] each = tt
+owned-named view (first ∷ rest) each = (
+  owned-passes (object_of view first) (each first (ap (λ b. b || names rest first) (eq-eqb first first refl))),
+  owned-named view rest (λ object named. each object (or-right (first == object) (names rest object) named)),
+)
+
+pub owned_listed : (view : ViewState) (those : List ℕ) → those ≡ owned_objects view → AreOwned view those
+owned_listed view those are =
+    subst (AreOwned view) (sym are) (owned-named view (owned_objects view) (λ object named. sym (names-numbers is_owned 0 view.objects object object (omega arith)) ∙ named))

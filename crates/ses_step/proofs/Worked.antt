@@ -1,0 +1,152 @@
+-- Worked cases: what a line is, and what one session's commands do, by computation.
+use Rattle.std.specs.Prelude.{ℕ, ℤ, ◌≡◌, List, [], ◌∷◌, codes, pos, Some, None}
+use Rattle.std.proofs.Common.{refl}
+use Rattle.aw_cell.specs.declared.cell.Cell.TheVariants.{Int}
+use Rattle.aw_cell.specs.declared.cell.Kind.TheVariants.{Int as Integer}
+use Rattle.aw_schema.specs.declared.definition.Def.{Def}
+use Rattle.aw_schema.specs.declared.definition.DefKind.{DefKind}
+use Rattle.aw_schema.specs.declared.definition.DefKind.TheVariants.{Valueset, Variable, Formula}
+use Rattle.aw_body.specs.declared.body.Body.{Body}
+use Rattle.aw_body.specs.declared.body.Body.TheVariants.{Set, Var}
+use Rattle.aw_body.specs.declared.change.Fresh.{Fresh}
+use Rattle.aw_body.specs.declared.patch.BodyPatch.TheVariants.{Cells as CellPatch}
+use Rattle.mv_core.specs.declared.entry.Entry.TheVariants as entry
+use Rattle.mv_core.specs.declared.entry.Reply.{Reply}
+use Rattle.mv_core.specs.declared.entry.Reply.TheVariants as reply
+use Rattle.ses_report.specs.Refusals.{no_form, not_attached, already_attached, too_large, newer}
+use Rattle.ses_step.specs.declared.answer.Answer.{Answer}
+use Rattle.ses_step.specs.declared.answer.Answer.TheVariants.{Done, Shown, Refused}
+use Rattle.ses_step.specs.declared.line.Command.{Command}
+use Rattle.ses_step.specs.declared.line.Command.TheVariants.{Attach, Acquire, Assign, Update, Commit, Show}
+use Rattle.ses_step.specs.declared.line.Line.TheVariants as line
+use Rattle.ses_step.specs.declared.session.Begun.{Begun}
+use Rattle.ses_step.specs.declared.session.Begun.TheVariants.{Said, Ask}
+use Rattle.ses_step.specs.declared.session.Known.{Known}
+use Rattle.ses_step.specs.Lines.{line_form}
+use Rattle.ses_step.specs.Sessions.{new_session, begun, finished_by}
+
+-- ---- lines
+
+an_acquire : line_form (codes "  Ann: acquire Sales \" mine") ≡ line.Session (codes "Ann") (Some (Acquire (codes "Sales")))
+an_acquire = refl
+
+an_assignment : line_form (codes "b2: v = 0012") ≡ line.Session (codes "b2") (Some (Assign (codes "v") (pos 12)))
+an_assignment = refl
+
+-- past the greatest INTEGER
+too_great : line_form (codes "b: v = 2147483648") ≡ line.Session (codes "b") None
+too_great = refl
+
+a_definition : line_form (codes "DEFINE v VARIABLE INTEGER") ≡ line.Definition (codes "v")
+a_definition = refl
+
+-- without the colon
+no_session : line_form (codes "b SHOW v") ≡ line.Malformed
+no_session = refl
+
+-- ---- an INTEGER variable v, a valueset chosen and a formula f
+
+v : List ℕ
+v = codes "v"
+
+defined : List ℕ → DefKind → Def
+defined name kind = record { name = name; kind = kind }
+
+all : List Def
+all = defined v (Variable Integer []) ∷ defined (codes "chosen") (Valueset 4) ∷ defined (codes "f") (Formula []) ∷ []
+
+holding : ℤ → Body
+holding value = Var (record { slots = 0; kind = Integer; cells = ([], Int value) ∷ [] })
+
+generation : ℕ → ℕ → Body → Fresh
+generation object number body = record { object = object; number = number; body = body }
+
+answered : Known → Reply → List ℕ → Answer
+answered s given asked = (finished_by all (codes "a" ∷ codes "b" ∷ []) s asked given).0
+
+after : Known → Reply → List ℕ → Known
+after s given asked = (finished_by all (codes "a" ∷ codes "b" ∷ []) s asked given).1
+
+said : Known → Command → Begun
+said s command = (begun all s command).0
+
+then : Known → Command → Known
+then s command = (begun all s command).1
+
+-- session 1 is attached, and v is 5 in its generation 3
+attached : Known
+attached = after (new_session 1) (reply.Attached (generation 0 3 (holding (pos 5)) ∷ generation 1 1 (Set (7 ∷ [])) ∷ [])) []
+
+-- it has acquired v and written 8 into it
+written : Known
+written = then (after attached (reply.Acquired []) (0 ∷ [])) (Assign v (pos 8))
+
+staged : Known
+staged = then written Update
+
+unattached : said (new_session 1) (Show v) ≡ Said (Refused not_attached)
+unfolding said all defined v
+unattached = refl
+
+attaches : said (new_session 1) Attach ≡ Ask (entry.Attach 1)
+unfolding said
+attaches = refl
+
+attached_twice : said attached Attach ≡ Said (Refused already_attached)
+unfolding said attached after
+attached_twice = refl
+
+shown : said attached (Show (codes "V")) ≡ Said (Shown (Int (pos 5)))
+unfolding said attached after all defined v generation holding
+shown = refl
+
+-- an object that is no single INTEGER variable may be acquired, and isn't shown
+valueset_acquired : said attached (Acquire (codes "chosen")) ≡ Ask (entry.Acquire 1 (record { object = 1; number = 1 } ∷ []) [] [])
+unfolding said attached after all defined v generation holding
+valueset_acquired = refl
+
+valueset_shown : said attached (Show (codes "chosen")) ≡ Said (Refused no_form)
+unfolding said attached after all defined v generation holding
+valueset_shown = refl
+
+-- a formula isn't kept
+formula_acquired : said attached (Acquire (codes "f")) ≡ Said (Refused no_form)
+unfolding said attached after all defined v generation holding
+formula_acquired = refl
+
+-- a session reads what it wrote, and commits what it staged
+written_shown : said written (Show v) ≡ Said (Shown (Int (pos 8)))
+unfolding said written then attached after all defined v generation holding
+written_shown = refl
+
+nothing_staged : said written Commit ≡ Said Done
+unfolding said written then attached after all defined v generation holding
+nothing_staged = refl
+
+change_asked : said staged Commit ≡ Ask (entry.Commit 1 (record { object = 0; patch = CellPatch (([], Int (pos 8)) ∷ []) } ∷ []) [])
+unfolding said staged written then attached after all defined v generation holding
+change_asked = refl
+
+-- what isn't owned isn't staged
+unowned : said (then (then attached (Assign v (pos 8))) Update) Commit ≡ Said Done
+unfolding said then attached after all defined v generation holding
+unowned = refl
+
+-- behind the commit the generation is the next one, and nothing is staged
+committed_acquired : said (after staged reply.Committed []) (Acquire v) ≡ Ask (entry.Acquire 1 (record { object = 0; number = 4 } ∷ []) [] [])
+unfolding said staged written then attached after all defined v generation holding
+committed_acquired = refl
+
+committed_twice : said (after staged reply.Committed []) Commit ≡ Said Done
+unfolding said staged written then attached after all defined v generation holding
+committed_twice = refl
+
+-- ---- refusals by the reply
+
+too_long : answered staged (reply.TooLarge 67108865) [] ≡ Refused too_large
+unfolding answered
+too_long = refl
+
+newer_elsewhere : answered attached (reply.Newer 0 9) (0 ∷ []) ≡ Refused (newer v 9)
+unfolding answered all defined v
+newer_elsewhere = refl
