@@ -22,10 +22,16 @@ writes the transcript, or writes what it holds.
 
 A refused line is answered by ERROR, a number and its detail:
 
-   1  a line of no form, an unknown or repeated name, a 65th session
+   1  a line of no form, an unknown name under a session, a 65th session
       write the statement as docs/LANGUAGE.md has it; define names before the first session line
-  14  the record of the commit would have more than 67,108,864 bytes
-      update and commit fewer objects at once
+   2  a name in the definition isn't defined
+      define it in a line before
+   3  an object in the definition is no dimension
+      name a dimension
+   7  the name is defined already, or the dimension comes twice
+      choose another name
+  14  more than 4,096 objects, 6 dimensions or 67,108,864 bytes of a commit's record
+      define fewer, or update and commit fewer objects at once
   15  the session isn't attached
       begin with AW ATTACH MULTI
   16  the session is attached already
@@ -36,6 +42,8 @@ A refused line is answered by ERROR, a number and its detail:
       attach in a later run, and change the newer value
   19  the session doesn't own the variable
       ACQUIRE it first
+  21  the definitions are written, and stay as they are
+      define all objects before the first session line, on a new workspace
   22  the variable has the last generation number that there is
       define another variable on a new workspace
   30  the disk failed in the commit, of which nothing is kept

@@ -1,8 +1,14 @@
 -- A refused line changes nothing, and the faults of commits are seen.
-use Rattle.std.specs.Prelude.{◌≡◌, ◌≢◌, ℕ, Bool, true, false, List, [], ◌∷◌, ◌++◌, Option, Some, None, is_some, Result, Ok, Err, if◌then◌else◌, refl}
-use Rattle.std.proofs.Common.{ap, sym, subst, ⊎_elim}
+use Rattle.std.specs.Prelude.{◌≡◌, ◌≢◌, ℕ, Bool, true, false, List, [], ◌∷◌, cond, length, nat_lt, Option, Some, None, is_some, Result, Ok, Err, refl}
+use Rattle.std.specs.Option.{ForSome, option_map, option_or}
+use Rattle.std.proofs.Common.{◌∙◌, ap, sym, subst, ⊎_elim}
 use Rattle.std.proofs.lemmas.Bool.{true≢false}
+use Rattle.std.proofs.lemmas.Option.{none-some, same_Some}
 use Rattle.aw_schema.specs.declared.definition.Def.{Def}
+use Rattle.aw_schema.specs.declared.fault.SchemaFault.{SchemaFault}
+use Rattle.aw_schema.specs.declared.fault.SchemaFault.TheVariants as schema
+use Rattle.aw_schema.specs.declared.fault.SchemaFault.TheVariants.{Repeat, TooMany, Unknown, WrongKind}
+use Rattle.aw_schema.specs.Checking.{repeated_name, refusal}
 use Rattle.aw_body.specs.KeptBodies.{bodies_of}
 use Rattle.mv_core.specs.declared.entry.Entry.{Entry}
 use Rattle.mv_core.specs.declared.entry.Entry.TheVariants.{Acquire, Commit, Release, Detach}
@@ -12,6 +18,7 @@ use Rattle.mv_core.specs.SharedStep.{shared_step, workspace_after}
 use Rattle.mv_core.specs.Workspace.{Workspace, standing}
 use Rattle.aw_store.proofs.callers.Plain.{IsPlain, plain-reply}
 use Rattle.ses_report.specs.declared.refusal.Refusal.{Refusal}
+use Rattle.ses_step.specs.declared.definition.Definition.{Definition}
 use Rattle.ses_step.specs.declared.line.Command.{Command}
 use Rattle.ses_step.specs.declared.line.Line.{Line}
 use Rattle.ses_step.specs.declared.line.Line.TheVariants as line
@@ -27,11 +34,12 @@ use Rattle.script_world.proofs.callers.Faults.{Hears}
 use Rattle.script_world.specs.Laws.{RefusalChangesNothing}
 use Rattle.script_world.specs.Worlds.{Event}
 use Rattle.script_meaning.specs.CommitFaults.{is_fault, fault_answer}
+use Rattle.script_meaning.specs.Defining.{def_of, names_in, told, define_refusal, accepted_by}
 use Rattle.script_meaning.specs.Matching.{SameState}
 use Rattle.ses_report.specs.Reports as report
-use Rattle.ses_report.specs.Refusals.{no_form}
+use Rattle.ses_report.specs.Refusals.{too_many}
 use Rattle.script_world.proofs.callers.Refusals.{Mild, refusal_changes_nothing}
-use Rattle.script_meaning.specs.Language.{store_writing, Waiting, begun_of, begin, finish, form_of, can_define, defined_by, define, integer, HistoryDisk, HistoryWorld, kept_step, history_machine, by_history}
+use Rattle.script_meaning.specs.Language.{store_writing, Waiting, begun_of, begin, finish, form_of, defined_by, define, HistoryDisk, HistoryWorld, kept_step, history_machine, by_history}
 
 abbrev QuietForm : world.Form (Option Command) → Type 0
 QuietForm (world.malformed refusal) = is_fault refusal ≡ false
@@ -40,23 +48,54 @@ QuietForm _ = Unit {0}
 quiet_form : (l : Line) → QuietForm (form_of l)
 quiet_form line.Blank = tt
 quiet_form line.Malformed = refl
-quiet_form (line.Definition name) = tt
+quiet_form (line.Definition found) = tt
 quiet_form (line.Session name command) = tt
 
 abbrev QuietResult : Result (List Def) Refusal → Type 0
 QuietResult (Ok d) = Unit {0}
 QuietResult (Err refusal) = is_fault refusal ≡ false
 
+-- a definition is refused with 2, 3, 7 or 14
+told-quiet : (d : List Def) (definition : Definition) (fault : SchemaFault) → is_fault (told d definition fault) ≡ false
+told-quiet d definition (Repeat name) = refl
+told-quiet d definition TooMany = refl
+told-quiet d definition (Unknown object) = refl
+told-quiet d definition (WrongKind name) = refl
+told-quiet d definition schema.NoMemory = refl
+
+refusal-quiet : (d : List Def) (definition : Definition) → ForSome (define_refusal d definition) (λ refusal. is_fault refusal ≡ false)
+refusal-quiet d definition =
+    or-quiet (repeated_name d definition.name) (cond wide (Some too_many) (option_map (told d definition) (refusal d (def_of d definition)))) (cond-quiet wide)
+  where
+    wide : Bool
+    wide = nat_lt 6 (length (names_in definition.kind))
+
+    Quiet : Option Refusal → Type 0
+    Quiet found = ForSome found (λ refusal. is_fault refusal ≡ false)
+
+    told-some : (found : Option SchemaFault) → Quiet (option_map (told d definition) found)
+    told-some None it is = absurd (none-some it is)
+    told-some (Some fault) it is = sym (ap is_fault (same_Some (told d definition fault) it is)) ∙ told-quiet d definition fault
+
+    cond-quiet : (test : Bool) → Quiet (cond test (Some too_many) (option_map (told d definition) (refusal d (def_of d definition))))
+    cond-quiet true = λ it is. sym (ap is_fault (same_Some too_many it is))
+    cond-quiet false = told-some (refusal d (def_of d definition))
+
+    or-quiet : (found : Option SchemaFault) (later : Option Refusal) → Quiet later → Quiet (option_or (option_map (told d definition) found) later)
+    or-quiet None later quiet = quiet
+    or-quiet (Some fault) later quiet = told-some (Some fault)
+
 quiet_define : (d : List Def) (lines : List (List ℕ)) → QuietResult (define d lines)
 quiet_define d [] = refl
 quiet_define d (text ∷ texts) = by_line (line_form text)
   where
+    by_refusal : (definition : Definition) (found : Option Refusal) → ForSome found (λ refusal. is_fault refusal ≡ false) → QuietResult (accepted_by d definition found)
+    by_refusal definition None quiet = tt
+    by_refusal definition (Some refusal) quiet = quiet refusal refl
+
     by_line : (l : Line) → QuietResult (defined_by d l)
-    by_line (line.Definition name) = by_test (can_define d name)
-      where
-        by_test : (can : Bool) → QuietResult (if can then Ok (d ++ integer name ∷ []) else Err no_form)
-        by_test true = tt
-        by_test false = refl
+    by_line (line.Definition (Some definition)) = by_refusal definition (define_refusal d definition) (refusal-quiet d definition)
+    by_line (line.Definition None) = refl
     by_line line.Blank = refl
     by_line line.Malformed = refl
     by_line (line.Session name command) = refl

@@ -1,5 +1,5 @@
 -- The views of each session fit what is committed and owned, by the laws of one session.
-use Rattle.std.specs.Prelude.{◌≡◌, ◌≢◌, ◌<◌, ◌≤◌, ◌==◌, ◌||◌, ◌++◌, ℕ, ℤ, Bool, true, false, cond, List, [], ◌∷◌, All, Option, Some, None, IsSome, Result, Ok, Err, if◌then◌else◌, refl}
+use Rattle.std.specs.Prelude.{◌≡◌, ◌≢◌, ◌<◌, ◌≤◌, ◌==◌, ◌||◌, ℕ, ℤ, Bool, true, false, cond, List, [], ◌∷◌, All, Option, Some, None, IsSome, Result, Ok, Err, refl}
 use Rattle.std.specs.Option.{ForSome, option_map}
 use Rattle.std.specs.List.{list_all}
 use Rattle.std.proofs.Common.{◌∙◌, ap, sym, subst, ⊎_elim, arith}
@@ -30,7 +30,7 @@ use Rattle.mv_view.specs.Laws.{CanRise, grown}
 use Rattle.mv_view.specs.Rules as rule
 use Rattle.mv_view.specs.ViewState.{ObjectView, ViewState, object_of, owned_objects, kept_kinds}
 use Rattle.ses_report.specs.declared.refusal.Refusal.{Refusal}
-use Rattle.ses_report.specs.Refusals.{no_form}
+use Rattle.ses_step.specs.declared.definition.Definition.{Definition}
 use Rattle.ses_step.specs.declared.line.Command.{Command}
 use Rattle.ses_step.specs.declared.line.Command.TheVariants as command
 use Rattle.ses_step.specs.declared.line.Line.{Line}
@@ -42,14 +42,16 @@ use Rattle.script_world.specs.Meaning as world
 use Rattle.script_world.specs.Outcomes.{Outcome}
 use Rattle.script_world.proofs.callers.Fits.{Lawful}
 use Rattle.script_world.proofs.callers.DiskFits.{FaultsKeep}
+use Rattle.script_meaning.specs.Defining.{IsFormed, define_refusal, accepted_by}
 use Rattle.script_meaning.specs.Fit.{AreDefinable, ViewFits, SessionFits}
-use Rattle.script_meaning.specs.Language.{language, store_writing, Waiting, begun_of, begin, finish, form_of, can_define, defined_by, define, integer, bytes_of, is_cut_off, kept_step, history_machine}
-use Rattle.script_meaning.proofs.callers.AssignedIntegers.{AssignsInteger, HasInteger, line_form-integer}
+use Rattle.script_meaning.specs.Language.{language, store_writing, Waiting, begun_of, begin, finish, form_of, defined_by, define, bytes_of, is_cut_off, kept_step, history_machine}
+use Rattle.script_meaning.proofs.AssignedIntegers.{AssignsInteger, HasInteger, line_form-integer}
 use Rattle.script_meaning.proofs.Begins.{AskedOf, AsksAttach, AsksAcquire, AsksCommit, acquiring, begins, Assigns}
 use Rattle.script_meaning.proofs.CutOff.{cut_off-cases}
-use Rattle.script_meaning.proofs.Defining.{AreDrafted, drafted-push, definable-drafted}
+use Rattle.script_meaning.proofs.callers.Defining.{definable-push}
 use Rattle.script_meaning.proofs.Fitting.{one_cell, single-kind}
 use Rattle.script_meaning.proofs.FittingViews.{view-written, view-updated, view-acquired, view-committed, view-attached, view-foreign_granted, view-foreign_committed, taken-other, given, owner_of-none_given}
+use Rattle.script_meaning.proofs.callers.LineDefinitions.{line_form-formed}
 use Rattle.script_meaning.proofs.KeptKinds.{if-some, each-some, seen-kept}
 use Rattle.script_meaning.proofs.Replies.{MayGrant, acquire-cases, commit-cases, kept-stands, number-small}
 use Rattle.script_meaning.proofs.StoredBodies.{KeptBodies, first-kept, committed-kept, found-all}
@@ -287,9 +289,9 @@ module _ (d : List Def) (names : List (List ℕ)) (shared : Workspace) (count : 
 opens_sound : (d : List Def) → AreDefinable d → Sound d (history_machine.opens d) 0
 opens_sound d definable = record { definable = definable; definitions_are = refl; bodies = first-kept d definable.stored; owners = λ object by is. absurd (none-some by is) }
 
--- while nothing is open: a script may have made these definitions, and there were no records
+-- while nothing is open: the definitions can be written, and there were no records
 abbrev pub Defined : List Decoded → List Def → Type 0
-Defined records d = AreDrafted d × (records ≡ [])
+Defined records d = AreDefinable d × (records ≡ [])
 
 abbrev ResultDefined : List Decoded → Result (List Def) Refusal → Type 0
 ResultDefined records (Ok d) = Defined records d
@@ -297,17 +299,19 @@ ResultDefined records (Err refusal) = Unit {0}
 
 define_defined : (records : List Decoded) (d : List Def) (lines : List (List ℕ)) → Defined records d → ResultDefined records (define d lines)
 define_defined records d [] it = tt
-define_defined records d (text ∷ texts) it = by_line (line_form text) (line_form-integer text)
+define_defined records d (text ∷ texts) it = by_line (line_form text) refl
   where
-    by_line : (l : Line) → HasInteger l → ResultDefined records (defined_by d l)
-    by_line (line.Definition name) named = by_test (can_define d name) refl
-      where
-        by_test : (can : Bool) → can_define d name ≡ can → ResultDefined records (if can then Ok (d ++ integer name ∷ []) else Err no_form)
-        by_test true is = (drafted-push d name it.0 named is, it.1)
-        by_test false is = tt
-    by_line line.Blank named = tt
-    by_line line.Malformed named = tt
-    by_line (line.Session name command) named = tt
+    by_refusal : (definition : Definition) → IsFormed definition → (found : Option Refusal) → define_refusal d definition ≡ found → ResultDefined records (accepted_by d definition found)
+    by_refusal definition formed None none = (definable-push d definition it.0 formed none, it.1)
+    by_refusal definition formed (Some refusal) is = tt
+
+    by_line : (l : Line) → line_form text ≡ l → ResultDefined records (defined_by d l)
+    by_line (line.Definition (Some definition)) is =
+        by_refusal definition (line_form-formed text definition is) (define_refusal d definition) refl
+    by_line (line.Definition None) is = tt
+    by_line line.Blank is = tt
+    by_line line.Malformed is = tt
+    by_line (line.Session name command) is = tt
 
 -- by the session's own number
 at_number : (d : List Def) (shared : Workspace) (who : ℕ) (s : Session) → Fits d shared who s → Fits d shared s.who s
@@ -327,7 +331,7 @@ module _ (d : List Def) (names : List (List ℕ)) (shared : Workspace) (count wh
 pub language_lawful : (records : List Decoded) → Lawful history_machine Spoken (Defined records) Sound Fits
 language_lawful records = record {
   defines = λ d lines e it is. subst (ResultDefined records) is (define_defined records d lines it);
-  opens = λ d it. opens_sound d (definable-drafted d it.0);
+  opens = λ d it. opens_sound d it.0;
   grows = λ d shared count sound. record { definable = sound.definable; definitions_are = sound.definitions_are; bodies = sound.bodies; owners = λ object by is. let it = sound.owners object by is in (it.0, omega (arith, it.1)) };
   fresh = λ d shared count sound. record {
     session = record { number = refl; view = λ view is. absurd (none-some view is) };
@@ -357,7 +361,7 @@ FormSpoken _ = Unit {0}
 form_spoken : (l : Line) → HasInteger l → FormSpoken (form_of l)
 form_spoken line.Blank it = tt
 form_spoken line.Malformed it = tt
-form_spoken (line.Definition name) it = tt
+form_spoken (line.Definition found) it = tt
 form_spoken (line.Session name None) it = tt
 form_spoken (line.Session name (Some command)) it = it command refl
 

@@ -1,6 +1,8 @@
+pub mod AssignedIntegers
 pub mod Begins
 pub mod CutOff
-pub mod Defining
+pub mod DefinitionCauses
+pub mod DefinitionLaws
 pub mod Differences
 pub mod Pairs
 pub mod KeptKinds
@@ -21,6 +23,7 @@ pub mod Acquiring
 pub mod Answering
 pub mod Reading
 pub mod ReadingOn
+pub mod Wholeness
 pub mod Worked
 pub mod WorkedDumps
 pub mod OneLine

@@ -32,7 +32,7 @@ use Rattle.script_meaning.specs.Language.{language, is_any, store_writing, histo
 use Rattle.script_meaning.specs.Matching.{CanBeOpened, StandFor, RecordsMatch, EndMatches}
 use Rattle.script_meaning.specs.SameRecords.{SameRecords}
 use Rattle.script_meaning.specs.Transcript.{opening, world_at, attempts}
-use Rattle.script_meaning.proofs.Defining.{drafted-none, definable-drafted}
+use Rattle.script_meaning.proofs.callers.Defining.{definable-none}
 use Rattle.script_meaning.proofs.Keeping.{Sound, Fits, Spoken, Defined, language_lawful, faults_keep, lines_spoken}
 use Rattle.script_meaning.proofs.Records.{Match, Stands, commits_recorded}
 use Rattle.script_meaning.proofs.StoredBodies.{first-kept, stored-kept}
@@ -67,7 +67,7 @@ opening_stands names records next can = by_records records can.spellings can.rep
   where
     by_records : (records : List Decoded) → AreRecords records → can_replay records ≡ true → WorldStands records next (opening names records)
     by_records [] are can =
-        all.begins_so (on_disk store_writing next history_machine) Spoken (Defined []) (SoundOn [] next) (FitsOn [] next) (lawful [] next) (opening names []) refl (λ none. (drafted-none, refl)) (λ disk is. absurd (none-some disk is))
+        all.begins_so (on_disk store_writing next history_machine) Spoken (Defined []) (SoundOn [] next) (FitsOn [] next) (lawful [] next) (opening names []) refl (λ none. (definable-none, refl)) (λ disk is. absurd (none-some disk is))
     by_records (Commit changes ∷ records) are can = absurd (true≢false (sym can))
     by_records (Definitions defined ∷ records) are can =
         all.begins_so (on_disk store_writing next history_machine) Spoken (Defined those) (SoundOn those next) (FitsOn those next) (lawful those next) (opening names those) refl (λ none. absurd (none-some disk (sym none))) (λ other is. subst (λ (it : HistoryDisk). SoundOn those next defined it 0) (same_Some disk other is) sound)
@@ -135,7 +135,7 @@ module _ (records : List Decoded) (next : ℕ → Outcome) (w : HistoryWorld) (i
   }
     where
       by_shared : (shared : Option HistoryDisk) → w.shared ≡ shared → AreDefinable w.definitions
-      by_shared None none = definable-drafted w.definitions (it.defined none).0
+      by_shared None none = (it.defined none).0
       by_shared (Some disk) is = (it.shared disk is).sound.sound.definable
 
   -- ---- the records that are settled

@@ -15,12 +15,11 @@ use Rattle.mv_core.specs.declared.entry.Reply.{Reply}
 use Rattle.mv_core.specs.declared.entry.Reply.TheVariants.{Acquired, Committed, Released, Detached}
 use Rattle.mv_core.specs.SharedStep.{shared_step, writes, workspace_after}
 use Rattle.mv_core.specs.Workspace.{Workspace, Table, table_of}
-use Rattle.aw_store.specs.Images.{AreRecords}
+use Rattle.aw_store.specs.Images.{IsStored, AreRecords}
 use Rattle.aw_store.specs.Replay.{are_replayed, are_accepted_after, can_replay, definitions_of, commits_of, stood_by}
 use Rattle.aw_store.specs.Stores.{StandFor, record_of}
 use Rattle.aw_store.proofs.callers.Commits.{can-write}
 use Rattle.aw_store.proofs.callers.Following.{definitions_of-commit}
-use Rattle.aw_store.proofs.callers.Spellings.{AreRecords-append}
 use Rattle.mv_view.specs.Rules.{changes}
 use Rattle.ses_step.specs.declared.session.Known.{Known as Session}
 use Rattle.script_world.specs.Outcomes.{Outcome}
@@ -29,7 +28,6 @@ use Rattle.script_meaning.specs.Fit.{AreDefinable}
 use Rattle.script_meaning.specs.Language.{bytes_of, kept_step, store_writing, history_machine}
 use Rattle.script_meaning.proofs.Begins.{AskedOf, AsksCommit, acquiring}
 use Rattle.script_meaning.proofs.CutOff.{cut_off-cases, large-unwritten}
-use Rattle.script_meaning.proofs.Defining.{definable-drafted}
 use Rattle.script_meaning.proofs.Keeping.{Sound, Fits, Spoken, asked_so, Defined}
 use Rattle.script_meaning.proofs.Recording.{are_changes}
 
@@ -87,6 +85,10 @@ commits_of-push [] commit = refl
 commits_of-push (stored.Definitions definitions ∷ records) commit = commits_of-push records commit
 commits_of-push (stored.Commit others ∷ records) commit = ap (λ (rest : List (List Change)). others ∷ rest) (commits_of-push records commit)
 
+AreRecords-push : (records : List Decoded) (last : Decoded) → AreRecords records → IsStored last → AreRecords (records ++ last ∷ [])
+AreRecords-push [] last are is = (is, tt)
+AreRecords-push (first ∷ records) last are is = (are.0, AreRecords-push records last are.1 is)
+
 -- the changes of a commit that a session asks are those of its view
 asked-commit : (s : Session) (who : ℕ) (commit : List Change) (leave : List ℕ) → AskedOf s (entry.Commit who commit leave) → (P : List Change → Type 0) → ((it : AsksCommit s (entry.Commit who commit leave)) → P (changes it.view)) → P commit
 asked-commit s who commit leave known P holds =
@@ -124,7 +126,7 @@ module _ (those : List Decoded) (d : List Def) (shared : Workspace) (count who :
         definitions_are = definitions_of-commit those commit ∙ match.definitions_are;
         commits = commits_of-push those commit ∙ ap (λ (history : List (List Change)). history ++ commit ∷ []) match.commits;
         replayable = can.replayable;
-        spellings = AreRecords-append those (stored.Commit commit) match.spellings (record {
+        spellings = AreRecords-push those (stored.Commit commit) match.spellings (record {
           spelling = (can.some, omega (arith, can.committable.few), can.committable.rising, all);
           short = short;
         });
@@ -160,7 +162,7 @@ module _ (those : List Decoded) (d : List Def) (shared : Workspace) (count who :
 
 pub commits_recorded : (next : ℕ → Outcome) (records : List Decoded) → Recorded store_writing history_machine next Spoken (Defined records) Sound Fits records Stands
 commits_recorded next records = record {
-  opens = λ d it. subst (λ (before : List Decoded). Match (before ++ store_writing.of_definitions d ∷ []) d []) (sym it.1) (definitions_match d (definable-drafted d it.0));
+  opens = λ d it. subst (λ (before : List Decoded). Match (before ++ store_writing.of_definitions d ∷ []) d []) (sym it.1) (definitions_match d it.0);
   writes = λ those d shared count who s statement it waiting r spoken few sound fits asks is match.
       let found = some-writes (writes it (kept_step shared it).0) (record_of it) r is in
       subst (λ (last : Decoded). Match (those ++ last ∷ []) d (kept_step shared it).1.history) found.1 (written those d shared count who s sound fits match it (asked_so d s statement it waiting asks).1 found.0);

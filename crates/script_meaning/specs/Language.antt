@@ -1,10 +1,6 @@
--- The lines that a session reads, as a meaning: INTEGER variables without dimensions, each defined by one line, and six
--- commands. What is kept may be of every kind, since a disk may have it.
-use Rattle.std.specs.Prelude.{◌&&◌, ℕ, Bool, true, false, List, [], ◌∷◌, ◌++◌, length, min, nat_lt, Option, Some, None, is_none, Result, Ok, Err, if◌then◌else◌}
-use Rattle.aw_cell.specs.declared.cell.Kind.TheVariants.{Int as Integer}
+-- The lines that a session reads, as a meaning: objects of every kept kind, each defined by one line, and six commands.
+use Rattle.std.specs.Prelude.{◌&&◌, ℕ, Bool, true, false, List, [], ◌∷◌, length, min, nat_lt, Option, Some, None, Result, Err, if◌then◌else◌}
 use Rattle.aw_schema.specs.declared.definition.Def.{Def}
-use Rattle.aw_schema.specs.declared.definition.DefKind.TheVariants.{Variable}
-use Rattle.aw_schema.specs.Checking as catalogue
 use Rattle.aw_body.specs.KeptBodies.{bodies_of}
 use Rattle.aw_codec.specs.declared.record.Decoded.{Decoded}
 use Rattle.aw_codec.specs.declared.record.Decoded.TheVariants as stored
@@ -16,7 +12,7 @@ use Rattle.mv_core.specs.SharedStep.{writes, shared_step, table_step}
 use Rattle.mv_core.specs.Workspace.{Workspace, Table, opened, table_of}
 use Rattle.aw_store.specs.Stores.{record_of}
 use Rattle.ses_report.specs.declared.refusal.Refusal.{Refusal}
-use Rattle.ses_report.specs.Refusals.{no_form}
+use Rattle.ses_report.specs.Refusals.{no_form, definitions_closed}
 use Rattle.ses_report.specs.Reports as report
 use Rattle.ses_step.specs.declared.line.Line.{Line}
 use Rattle.ses_step.specs.declared.line.Line.TheVariants as line
@@ -31,6 +27,7 @@ use Rattle.ses_step.specs.Sessions.{new_session, begun, finished}
 use Rattle.script_world.specs.Meaning as world
 use Rattle.script_world.specs.Worlds.{World, Machine, no_session}
 use Rattle.script_world.specs.Outcomes.{Outcome, OnDisk, Writing, by_list}
+use Rattle.script_meaning.specs.Defining.{defined}
 
 -- ---- a line
 
@@ -38,19 +35,12 @@ use Rattle.script_world.specs.Outcomes.{Outcome, OnDisk, Writing, by_list}
 abbrev pub form_of : Line → world.Form (Option Command)
 form_of line.Blank = world.nothing
 form_of line.Malformed = world.malformed no_form
-form_of (line.Definition name) = world.ends
+form_of (line.Definition found) = world.ends
 form_of (line.Session name command) = world.under name command
 
--- what a line defines: an INTEGER variable without dimensions
-abbrev pub integer : List ℕ → Def
-integer name = record { name = name; kind = Variable Integer [] }
-
--- a catalogue of these definitions accepts it
-abbrev pub can_define : List Def → List ℕ → Bool
-can_define definitions name = is_none (catalogue.refusal definitions (integer name))
-
+-- what a line defines; a definition line that is of no form is refused with 1
 abbrev pub defined_by : List Def → Line → Result (List Def) Refusal
-defined_by definitions (line.Definition name) = if can_define definitions name then Ok (definitions ++ integer name ∷ []) else Err no_form
+defined_by definitions (line.Definition (Some definition)) = defined definitions definition
 defined_by definitions _ = Err no_form
 
 abbrev pub define : List Def → List (List ℕ) → Result (List Def) Refusal
@@ -96,7 +86,7 @@ language = record {
   new_session = new_session;
   begin = begin;
   finish = finish;
-  late = λ lines. no_form;
+  late = λ lines. definitions_closed;
   crowded = no_form;
   crowded_prefix = λ name. no_session;
 }

@@ -1,5 +1,7 @@
+pub mod Defining
 pub mod Language
 pub mod Generations
+pub mod DefinitionAnswers
 pub mod Turns
 pub mod Transcript
 pub mod TakingTurns

@@ -2,11 +2,15 @@
 //! replayed, whichever names of sessions are known before, and whichever of its commits meet a fault
 //! of the disk.
 
-ghost use Rattle.std.specs.Prelude.{◌≤◌, ◌++◌, ℕ, List, Option, length};
+ghost use Rattle.std.specs.Prelude.{◌≡◌, ◌≤◌, ◌++◌, ℕ, List, Option, None, Some, IsSome, length};
 ghost use Rattle.aw_schema.specs.declared.definition.Def.{Def};
 ghost use Rattle.aw_body.specs.declared.body.Body.{Body};
 ghost use Rattle.aw_codec.specs.declared.record.Decoded.{Decoded};
 ghost use Rattle.mv_core.specs.declared.object.Object.{Object};
+ghost use Rattle.ses_report.specs.Refusals.{no_form, definitions_closed};
+ghost use Rattle.ses_step.specs.declared.definition.Definition.{Definition};
+ghost use Rattle.ses_step.specs.declared.line.Line.TheVariants as form;
+ghost use Rattle.ses_step.specs.Lines.{line_form};
 ghost use Rattle.script_world.specs.Faults.{SeesFaults, FaultsAreSeen};
 ghost use Rattle.script_world.specs.Laws.{KeepsOthers, SameOf, GoesOn, RefusalChangesNothing, LeavesApart, MalformedIsRefused, ClosesExactly, SessionsAreAnswered, TextFixesWorld};
 ghost use Rattle.script_world.specs.Left.{LeavesAllDone};
@@ -19,6 +23,7 @@ ghost use Rattle.script_meaning.specs.AllDone.{AreDone, IsAsWithNone};
 ghost use Rattle.script_meaning.specs.Answering.{CommandsAreAnswered, AssignmentsAreDone, IsOneLine};
 ghost use Rattle.script_meaning.specs.CommitFaults.{is_fault, fault_answer};
 ghost use Rattle.script_meaning.specs.CrashRuns.{LeavesARunOf, LeavesWhatOpens};
+ghost use Rattle.script_meaning.specs.DefinitionAnswers.{AnswersDefinition, IsRefused};
 ghost use Rattle.script_meaning.specs.Dump.{DumpTells, RecordsTell};
 ghost use Rattle.script_meaning.specs.Extending.{CommitsExtend, GrantsHaveLatest};
 ghost use Rattle.script_meaning.specs.Fit.{WorldFits};
@@ -85,6 +90,18 @@ pub fn lines_keep_other_sessions()
 pub fn commands_are_answered()
     ensures in_order { (coming : List Outcome) → CommandsAreAnswered coming }
     ensures assigned { (names : List (List ℕ)) (records : List Decoded) (coming : List Outcome) (events : List Event) → CanBeOpened records → AssignmentsAreDone coming (world_at names records coming events) }
+{}
+
+/// Before the definitions are closed, a definition line is refused with the first of these that
+/// applies: 1 where it is of no form; 7 where its name is there; 14 where there are 4,096 objects or
+/// more than 6 dimensions are written; 2 with the first name in it that isn't defined; 3 with the
+/// first object in it that is no dimension; 7 with the first dimension that comes again in a variable.
+/// Else its definition, with numbers for the names, is the last one from then on. Once they are closed
+/// each definition line is refused with 21. See docs/LANGUAGE.md, 'Definitions'.
+pub fn definitions_are_answered()
+    ensures in_order { (names : List (List ℕ)) (records : List Decoded) (coming : List Outcome) (events : List Event) → let w = world_at names records coming events in w.shared ≡ None → (text : List ℕ) (d : Definition) → line_form text ≡ form.Definition (Some d) → AnswersDefinition coming w text d }
+    ensures formless { (names : List (List ℕ)) (records : List Decoded) (coming : List Outcome) (events : List Event) → let w = world_at names records coming events in w.shared ≡ None → (text : List ℕ) → line_form text ≡ form.Definition None → IsRefused coming w text no_form }
+    ensures closed { (names : List (List ℕ)) (records : List Decoded) (coming : List Outcome) (events : List Event) → let w = world_at names records coming events in IsSome w.shared → (text : List ℕ) (found : Option Definition) → line_form text ≡ form.Definition found → IsRefused coming w text definitions_closed }
 {}
 
 /// A refused line changes nothing: the definitions, the commits, the owners and what each session

@@ -36,7 +36,7 @@ use Rattle.script_play.specs.Playing.{Play, Stands, HasDone, ClosesWith, WasCut,
 use Rattle.script_play.specs.Reading.{Streams, streams, BrokeOff, RanOver, EndedWhole, EndsRun, EndsFrom}
 use Rattle.script_play.specs.Ends.{IsFront, AreEvents, IsWhole, IsCut, IsUndefined, EndsSo, contents, WasOpened, Plays}
 use Rattle.script_play.specs.Opened.{opened_world, opened_play}
-use Rattle.script_play.proofs.Writable.{integers-none}
+use Rattle.script_meaning.proofs.callers.Defining.{definable-none}
 use Rattle.script_play.proofs.Turning.{later-same}
 use Rattle.script_play.proofs.Done.{cut_before, rose-earlier}
 use Rattle.ses_step.specs.declared.session.Session.{Session}
@@ -220,7 +220,7 @@ module _ {D : Type 0} (faults clock : D → ℕ) (crash : D → ℕ → List ℕ
   opened_sound store = record {
     paired = refl;
     seen = tt;
-    writable = λ none. integers-none;
+    writable = λ none. definable-none;
     unnamed = λ none. refl;
     no_sessions = λ none. refl;
   }

@@ -1,4 +1,4 @@
-pub mod Writable
+pub mod Drafting
 pub mod Allowing
 pub mod Turning
 pub mod Lines

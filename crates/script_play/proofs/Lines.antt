@@ -1,11 +1,11 @@
 -- What the parts of a line's answer mean on the machine.
-use Rattle.std.specs.Prelude.{cond, unwrap_or, ◌≡◌, ◌≢◌, ◌≤◌, ◌<◌, ◌&&◌, ◌++◌, ◌⊎◌, ℕ, zero, suc, min, Bool, true, false, List, [], ◌∷◌, length, map, nat_lt, Option, None, Some, Result, Ok, Err, is_none, if◌then◌else◌, slice_index_or, slice_set, refl}
+use Rattle.std.specs.Prelude.{cond, unwrap_or, ◌≡◌, ◌≢◌, ◌≤◌, ◌<◌, ◌++◌, ◌⊎◌, ℕ, zero, suc, min, Bool, true, false, List, [], ◌∷◌, length, map, nat_lt, Option, None, Some, Result, Ok, Err, is_none, if◌then◌else◌, slice_index_or, slice_set, refl}
 use Rattle.std.specs.Option.{option_map, option_to_list}
 use Rattle.std.proofs.Common.{◌∙◌, ap, ap₂, sym, subst, inl, inr, ⊎_elim, arith, append_assoc, append-nil, length-set, length-append}
-use Rattle.std.proofs.lemmas.Bool.{true≢false, and_parts, lt-ltb, le-ltb, ltb-true, ltb-false}
+use Rattle.std.proofs.lemmas.Bool.{lt-ltb, le-ltb, ltb-true, ltb-false}
 use Rattle.std.proofs.lemmas.Option.{none-some}
 use Rattle.aw_schema.specs.declared.definition.Def.{Def}
-use Rattle.aw_cell.specs.Names.{same_word, is_name}
+use Rattle.aw_cell.specs.Names.{same_word}
 use Rattle.aw_codec.specs.declared.record.Decoded.{Decoded}
 use Rattle.aw_codec.specs.declared.record.Decoded.TheVariants.{Definitions}
 use Rattle.mv_core.specs.Workspace.{Table}
@@ -13,8 +13,9 @@ use Rattle.aw_store.specs.Replay.{definitions_of}
 use Rattle.aw_store.specs.Stores.{StoreState}
 use Rattle.aw_schema.specs.Definitions.{object_of}
 use Rattle.ses_report.specs.declared.refusal.Refusal.{Refusal}
-use Rattle.ses_report.specs.Refusals.{no_form, not_attached}
+use Rattle.ses_report.specs.Refusals.{no_form, not_attached, definitions_closed}
 use Rattle.ses_step.specs.declared.answer.Answer.{Answer}
+use Rattle.ses_step.specs.declared.definition.Definition.{Definition}
 use Rattle.ses_step.specs.Answers.{answer_of}
 use Rattle.ses_step.specs.declared.line.Command.{Command}
 use Rattle.ses_step.specs.declared.line.Command.TheVariants as command
@@ -30,21 +31,24 @@ use Rattle.ses_step.specs.declared.session.Session.{Session}
 use Rattle.ses_step.specs.Lines.{line_form}
 use Rattle.ses_step.specs.Sessions.{Sees, new_session, resting, name_at, located, generation_in, is_single_at, cell_in, with_cell}
 use Rattle.script_world.specs.Outcomes.{Outcome, done, Attempt, as_done, all_attempts, attempts_of}
-use Rattle.script_world.specs.Worlds.{Answered, answered_so, refused_so, no_session, silent, defined, defined_so, answers, with_session, closed, shared_of, commanded, crowded_out, settled, block_ends, script_ends}
+use Rattle.script_world.specs.Worlds.{Answered, answered_so, no_session, silent, defined, defined_so, answers, with_session, closed, shared_of, commanded, crowded_out, settled, block_ends, script_ends}
 use Rattle.script_world.proofs.callers.Moves.{position-le}
-use Rattle.script_meaning.specs.Language.{language, integer, can_define, defined_by, is_any, ObjectsDisk, ObjectsWorld}
+use Rattle.script_meaning.specs.Defining.{define_refusal, accepted_by}
+use Rattle.script_meaning.specs.Fit.{AreDefinable}
+use Rattle.script_meaning.specs.Language.{language, defined_by, is_any, ObjectsDisk, ObjectsWorld}
 use Rattle.script_meaning.specs.StoreRuns.{store_disk}
 use Rattle.script_meaning.specs.TakingTurns.{with_turn}
 use Rattle.script_meaning.specs.Turns.{Turn, turn, turn_from}
-use Rattle.script_meaning.proofs.callers.AssignedIntegers.{HasInteger, line_form-integer}
+use Rattle.script_meaning.proofs.callers.Defining.{definable-push}
+use Rattle.script_meaning.proofs.callers.LineDefinitions.{line_form-formed, spellable-formed}
 use Rattle.script_meaning.proofs.callers.TakingTurns.{commanded-turn}
 use Rattle.script_play.specs.declared.world.StoreWorld.{StoreWorld}
 use Rattle.script_play.specs.declared.response.Response.{Response}
 use Rattle.script_play.specs.declared.stop.Stop.{Stop}
 use Rattle.script_play.specs.declared.stop.Stop.TheVariants.{SinkFault, DiskFault, NoMemory}
-use Rattle.script_play.proofs.Writable.{integers-push}
-use Rattle.script_play.specs.StoreWorlds.{definitions_in, AllSee, known_by, own_known, on_machine, IsMade, IsSound, answered_by, refused_response, can_join, JoinsSo, own_place, placed}
-use Rattle.script_play.specs.Turning.{machine, Means, defining, IsOpen, DefinesName, command_means, session_means, named_means, form_means, event_means, Moves, Turned, TurnTakes, TurnWants, TurnsAt, Answers, Responds, Takes, Wants, Opens, ClosesSo, StopsSo, RespondsSo}
+use Rattle.script_play.specs.Drafts.{drafting_refusal, drafted_after, CanBeSpelled}
+use Rattle.script_play.specs.StoreWorlds.{definitions_in, AllSee, known_by, own_known, on_machine, IsMade, IsSound, answered_by, refused_response, refusing_response, joining_refusal, JoinsSo, own_place, placed}
+use Rattle.script_play.specs.Turning.{machine, Means, defining, IsOpen, command_means, session_means, named_means, form_means, event_means, Moves, Turned, TurnTakes, TurnWants, TurnsAt, Answers, Responds, Takes, Wants, Opens, ClosesSo, StopsSo, RespondsSo}
 use Rattle.script_play.proofs.Turning.{moves-nothing, moves-then}
 
 -- ---- the first command of a session that isn't attached makes no attempt
@@ -554,66 +558,75 @@ module _ {D : Type 0} (faults clock : D → ℕ) (crash : D → ℕ → List ℕ
 
   -- ---- a definition
 
+  -- what a definition line leaves, where it is refused so or accepted
+  abbrev drafting : StoreWorld (StoreState D) → Option Definition → Option Refusal → StoreWorld (StoreState D)
+  drafting w found refusal = record w { drafted = drafted_after refusal w.drafted found }
+
+  abbrev response_of : Option Refusal → Option Response
+  response_of refusal = option_map (refusing_response no_session) refusal
+
   -- what a definition line is answered, whether the store has definitions or not
-  defined-is : (opened : Option Decoded) (tried : List (Attempt Decoded)) (w : StoreWorld (StoreState D)) (text name : List ℕ) → line_form text ≡ line.Definition name → (can : Bool) → can_join w name ≡ can → defined (on_machine opened tried w) (text ∷ []) ≡ (if can then silent (on_machine opened tried (record w { drafted = w.drafted ++ integer name ∷ [] })) else refused_so no_session no_form (on_machine opened tried w))
-  defined-is opened tried w text name form can is = by_found (definitions_of w.store.records) is
+  defined-is : (opened : Option Decoded) (tried : List (Attempt Decoded)) (w : StoreWorld (StoreState D)) (text : List ℕ) (found : Option Definition) → line_form text ≡ line.Definition found → defined (on_machine opened tried w) (text ∷ []) ≡ answered_by (response_of (joining_refusal w found)) (on_machine opened tried (drafting w found (joining_refusal w found)))
+  defined-is opened tried w text found form = by_definitions (definitions_of w.store.records)
     where
       over_found : Option (List Def) → List Def → ObjectsWorld
-      over_found found drafted = record { definitions = unwrap_or found drafted; open_lines = []; shared = option_map (store_disk opened tried) (option_map (λ (those : List Def). w.store) found); names = w.names; sessions = known_by w.sessions }
+      over_found there drafts = record { definitions = unwrap_or there drafts; open_lines = []; shared = option_map (store_disk opened tried) (option_map (λ (those : List Def). w.store) there); names = w.names; sessions = known_by w.sessions }
 
-      longer : List Def
-      longer = w.drafted ++ integer name ∷ []
+      by_refusal : (d : Definition) (refusal : Option Refusal) → defined_so (over_found None w.drafted) (accepted_by w.drafted d refusal) ≡ answered_by (response_of refusal) (over_found None (drafted_after refusal w.drafted (Some d)))
+      by_refusal d None = refl
+      by_refusal d (Some refusal) = refl
 
-      by_can : (test can : Bool) → test ≡ can → defined_so (over_found None w.drafted) (if test then Ok longer else Err no_form) ≡ (if can then silent (over_found None longer) else refused_so no_session no_form (over_found None w.drafted))
-      by_can true true same = refl
-      by_can false false same = refl
-      by_can true false same = absurd (true≢false same)
-      by_can false true same = absurd (true≢false (sym same))
+      by_found : (found : Option Definition) → defined_so (over_found None w.drafted) (defined_by w.drafted (line.Definition found)) ≡ answered_by (response_of (drafting_refusal w.drafted found)) (over_found None (drafted_after (drafting_refusal w.drafted found) w.drafted found))
+      by_found None = refl
+      by_found (Some d) = by_refusal d (define_refusal w.drafted d)
 
-      by_found : (found : Option (List Def)) → (is_none found && can_define w.drafted name) ≡ can → defined (over_found found w.drafted) (text ∷ []) ≡ (if can then silent (over_found found longer) else refused_so no_session no_form (over_found found w.drafted))
-      by_found None same =
-          ap (λ l. defined_so (over_found None w.drafted) (defined_by w.drafted l)) form ∙ by_can (can_define w.drafted name) can same
-      by_found (Some definitions) same = by_none can same
-        where
-          by_none : (can : Bool) → false ≡ can → refused_so no_session no_form (over_found (Some definitions) w.drafted) ≡ (if can then silent (over_found (Some definitions) longer) else refused_so no_session no_form (over_found (Some definitions) w.drafted))
-          by_none false same = refl
-          by_none true same = absurd (true≢false (sym same))
+      refused_by : Option (List Def) → Option Refusal
+      refused_by there = if is_none there then drafting_refusal w.drafted found else Some definitions_closed
 
-  joined-sound : (w : StoreWorld (StoreState D)) (name : List ℕ) → is_name name ≡ true → can_join w name ≡ true → IsSound w → IsSound (record w { drafted = w.drafted ++ integer name ∷ [] })
-  joined-sound w name named can sound = record {
+      by_definitions : (there : Option (List Def)) → defined (over_found there w.drafted) (text ∷ []) ≡ answered_by (response_of (refused_by there)) (over_found there (drafted_after (refused_by there) w.drafted found))
+      by_definitions None = ap (λ l. defined_so (over_found None w.drafted) (defined_by w.drafted l)) form ∙ by_found found
+      by_definitions (Some definitions) = refl
+
+  -- what is drafted can be written
+  drafted-definable : (drafts : List Def) (text : List ℕ) (found : Option Definition) → line_form text ≡ line.Definition found → AreDefinable drafts → AreDefinable (drafted_after (drafting_refusal drafts found) drafts found)
+  drafted-definable drafts text None form it = it
+  drafted-definable drafts text (Some d) form it = by_refusal (define_refusal drafts d) refl
+    where
+      by_refusal : (refusal : Option Refusal) → define_refusal drafts d ≡ refusal → AreDefinable (drafted_after refusal drafts (Some d))
+      by_refusal (Some refusal) is = it
+      by_refusal None is = definable-push drafts d it (line_form-formed text d form) is
+
+  drafted-sound : (w : StoreWorld (StoreState D)) (text : List ℕ) (found : Option Definition) → line_form text ≡ line.Definition found → IsSound w → IsSound (drafting w found (joining_refusal w found))
+  drafted-sound w text found form sound = record {
     paired = sound.paired;
     seen = sound.seen;
-    writable = λ none. integers-push w.drafted name (sound.writable none) named (and_parts (is_none (definitions_of w.store.records)) (can_define w.drafted name) can).1;
+    writable = λ none.
+        subst (λ (there : Option (List Def)). AreDefinable (drafted_after (if is_none there then drafting_refusal w.drafted found else Some definitions_closed) w.drafted found)) (sym none)
+        (drafted-definable w.drafted text found form (sound.writable none));
     unnamed = sound.unnamed;
     no_sessions = sound.no_sessions;
   }
 
-  pub joins_answers : (text name : List ℕ) (response : Option Response) (old new : StoreWorld (StoreState D)) → line_form text ≡ line.Definition name → is_name name ≡ true → JoinsSo name response old new → Responds faults clock crash (form_means text (line.Definition name)) response old new
-  joins_answers text name None old new form named joins =
-      let longer : StoreWorld (StoreState D) = record old { drafted = old.drafted ++ integer name ∷ [] } in
-      let means : Means = form_means text (line.Definition name) in
-      let it : Answers faults clock crash means None old longer = record {
+  pub joins_answers : (text : List ℕ) (found : Option Definition) (refusal : Option Refusal) (response : Option Response) (old new : StoreWorld (StoreState D)) → line_form text ≡ line.Definition found → response ≡ option_map (refusing_response no_session) refusal → JoinsSo found refusal old new → Responds faults clock crash (form_means text (line.Definition found)) response old new
+  joins_answers text found refusal response old new form response_is joins =
+      let means : Means = form_means text (line.Definition found) in
+      let why : Option Refusal = joining_refusal old found in
+      let it : Answers faults clock crash means (response_of why) old (drafting old found why) = record {
         told = [];
         more = [];
         as_many = refl;
         moves = moves-nothing faults clock crash old.store;
-        means_so = λ next opened tried made tells. defined-is opened tried old text name form true joins.0 ∙ ap (λ those. silent (on_machine opened those longer)) (sym (append-nil tried));
+        means_so = λ next opened tried made tells. defined-is opened tried old text found form ∙ ap (λ those. answered_by (response_of why) (on_machine opened those (drafting old found why))) (sym (append-nil tried));
         all_made = λ opened tried made none. ((made none).0, append-nil tried ∙ (made none).1);
-        keeps_sound = joined-sound old name named joins.0;
+        keeps_sound = drafted-sound old text found form;
       } in
-      subst (λ w. Responds faults clock crash (form_means text (line.Definition name)) None old w) (sym joins.1) (responds means None old longer it)
-  joins_answers text name (Some response) old new form named joins =
-      subst (λ w. Responds faults clock crash (form_means text (line.Definition name)) (Some response) old w) (sym joins.2)
-      (subst (λ it. Responds faults clock crash (form_means text (line.Definition name)) (Some it) old old) (sym joins.1)
-      (responds (form_means text (line.Definition name)) (Some (refused_response no_session)) old old (answers_still (form_means text (line.Definition name)) (Some (refused_response no_session)) old (λ next opened tried. defined-is opened tried old text name form false joins.0))))
+      subst (λ it. Responds faults clock crash means it old new) (sym response_is)
+      (subst (λ w. Responds faults clock crash means (response_of refusal) old w) (sym joins.1)
+      (subst (λ (one : Option Refusal). Responds faults clock crash means (response_of one) old (drafting old found one)) (sym joins.0)
+      (responds means (response_of why) old (drafting old found why) it)))
 
 -- ---- the form of a line
 
-names-defined : (form : Line) → HasInteger form → DefinesName form
-names-defined (line.Definition name) it = it
-names-defined (line.Session name command) it = tt
-names-defined line.Blank it = tt
-names-defined line.Malformed it = tt
-
-pub line_defines-name : (l : List ℕ) → DefinesName (line_form l)
-line_defines-name l = names-defined (line_form l) (line_form-integer l)
+-- what a line defines can be spelled, whatever is drafted
+pub line_spelled : (l : List ℕ) (drafts : List Def) (found : Option Definition) → line_form l ≡ line.Definition found → CanBeSpelled drafts found
+line_spelled l drafts found form d is = spellable-formed drafts d (line_form-formed l d (form ∙ ap line.Definition is))

@@ -1,4 +1,5 @@
 pub mod Cuts
+pub mod Drafts
 pub mod StoreWorlds
 pub mod Turning
 pub mod Playing

@@ -1,25 +1,27 @@
 -- The world that the program keeps: a store stands in it from the beginning, and is the shared state once it has definitions.
-use Rattle.std.specs.Prelude.{◌≡◌, ◌≤◌, ◌&&◌, ◌++◌, ℕ, min, Bool, true, false, List, [], ◌∷◌, length, map, nat_lt, slice_index_or, Option, None, Some, is_none, unwrap_or, if◌then◌else◌, IsTrue}
-use Rattle.std.specs.List.{list_all}
+use Rattle.std.specs.Prelude.{◌≡◌, ◌++◌, ℕ, min, List, [], ◌∷◌, length, map, nat_lt, slice_index_or, Option, None, Some, is_none, unwrap_or, if◌then◌else◌}
 use Rattle.std.specs.Option.{option_map}
-use Rattle.aw_cell.specs.Names.{is_name}
 use Rattle.aw_schema.specs.declared.definition.Def.{Def}
 use Rattle.aw_codec.specs.declared.record.Decoded.{Decoded}
 use Rattle.aw_store.specs.Replay.{definitions_of}
 use Rattle.aw_store.specs.Stores.{StoreState}
-use Rattle.ses_report.specs.Refusals.{no_form}
+use Rattle.ses_report.specs.declared.refusal.Refusal.{Refusal}
+use Rattle.ses_report.specs.Refusals.{no_form, definitions_closed}
 use Rattle.ses_step.specs.declared.answer.Answer.TheVariants.{Refused}
+use Rattle.ses_step.specs.declared.definition.Definition.{Definition}
 use Rattle.ses_step.specs.Answers.{answer_of}
 use Rattle.ses_step.specs.Words.{place_of}
 use Rattle.ses_step.specs.declared.session.Known.{Known}
 use Rattle.ses_step.specs.declared.session.Session.{Session}
 use Rattle.ses_step.specs.Sessions.{new_session, resting, Sees}
-use Rattle.script_world.specs.Worlds.{World, with_shared, Answered, silent, answered_so, no_session}
+use Rattle.script_world.specs.Worlds.{World, with_shared, Answered, silent, answered_so}
 use Rattle.script_world.specs.Outcomes.{Attempt}
-use Rattle.script_meaning.specs.Language.{language, integer, can_define, ObjectsWorld}
+use Rattle.script_meaning.specs.Fit.{AreDefinable}
+use Rattle.script_meaning.specs.Language.{language, ObjectsWorld}
 use Rattle.script_meaning.specs.StoreRuns.{store_disk}
 use Rattle.script_play.specs.declared.world.StoreWorld.{StoreWorld}
 use Rattle.script_play.specs.declared.response.Response.{Response}
+use Rattle.script_play.specs.Drafts.{drafting_refusal, drafted_after}
 
 -- the store, once it has definitions
 abbrev pub open_store : {D : Type 0} → StoreState D → Option (StoreState D)
@@ -56,13 +58,6 @@ on_machine opened tried w = with_shared (store_disk opened tried) (world_of w)
 abbrev pub IsMade : {D : Type 0} → Option Decoded → List (Attempt Decoded) → StoreState D → Type 0
 IsMade opened tried store = definitions_of store.records ≡ None → (opened ≡ None) × (tried ≡ [])
 
--- what a script can define: INTEGER variables without dimensions, as many as there may be
-pub record AreIntegers (definitions : List Def) : Type 0 where
-  pub names : List (List ℕ)
-  pub are : definitions ≡ map integer names
-  pub named : IsTrue (list_all is_name names)
-  pub few : length names ≤ 4096
-
 -- each of these sessions sees these definitions
 abbrev pub AllSee : List Def → List Session → Type 0
 AllSee definitions [] = Unit {0}
@@ -72,7 +67,7 @@ AllSee definitions (session ∷ sessions) = Sees definitions session.known × Al
 pub record IsSound {D : Type 0} (w : StoreWorld (StoreState D)) : Type 0 where
   pub paired : length w.sessions ≡ min (length w.names) 64
   pub seen : AllSee (definitions_in w.store) w.sessions
-  pub writable : definitions_of w.store.records ≡ None → AreIntegers w.drafted
+  pub writable : definitions_of w.store.records ≡ None → AreDefinable w.drafted
   pub unnamed : definitions_of w.store.records ≡ None → w.names ≡ []
   pub no_sessions : definitions_of w.store.records ≡ None → w.sessions ≡ []
 
@@ -83,18 +78,20 @@ abbrev pub answered_by : {S : Type 0} → Option Response → World language S �
 answered_by None w = silent w
 answered_by (Some response) w = answered_so response.prefix (answer_of response.answer) w
 
+abbrev pub refusing_response : List ℕ → Refusal → Response
+refusing_response prefix refusal = record { prefix = prefix; answer = Refused refusal }
+
 abbrev pub refused_response : List ℕ → Response
-refused_response prefix = record { prefix = prefix; answer = Refused no_form }
+refused_response prefix = refusing_response prefix no_form
 
 -- ---- a definition
 
--- a name can be defined before the definitions are closed, where the catalogue accepts it
-abbrev pub can_join : {D : Type 0} → StoreWorld (StoreState D) → List ℕ → Bool
-can_join w name = is_none (definitions_of w.store.records) && can_define w.drafted name
+-- why a definition line is refused: whatever it defines, after the definitions are closed
+abbrev pub joining_refusal : {D : Type 0} → StoreWorld (StoreState D) → Option Definition → Option Refusal
+joining_refusal w found = if is_none (definitions_of w.store.records) then drafting_refusal w.drafted found else Some definitions_closed
 
-abbrev pub JoinsSo : {D : Type 0} → List ℕ → Option Response → StoreWorld (StoreState D) → StoreWorld (StoreState D) → Type 0
-JoinsSo name None old new = (can_join old name ≡ true) × (new ≡ record old { drafted = old.drafted ++ integer name ∷ [] })
-JoinsSo name (Some response) old new = (can_join old name ≡ false) × (response ≡ refused_response no_session) × (new ≡ old)
+abbrev pub JoinsSo : {D : Type 0} → Option Definition → Option Refusal → StoreWorld (StoreState D) → StoreWorld (StoreState D) → Type 0
+JoinsSo found refusal old new = (refusal ≡ joining_refusal old found) × (new ≡ record old { drafted = drafted_after refusal old.drafted found })
 
 -- ---- a session's first line
 

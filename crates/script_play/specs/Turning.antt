@@ -1,8 +1,7 @@
 -- What the parts of the answer to a line do to a store and to a run, whatever the run did before.
-use Rattle.std.specs.Prelude.{◌≡◌, ◌≢◌, ◌≤◌, ◌<◌, ◌+◌, ◌++◌, ◌⊎◌, ◌↔◌, ℕ, true, List, [], ◌∷◌, length, Option, None, Some, Result, Ok, Err, slice_set}
+use Rattle.std.specs.Prelude.{◌≡◌, ◌≢◌, ◌≤◌, ◌<◌, ◌+◌, ◌++◌, ◌⊎◌, ◌↔◌, ℕ, List, [], ◌∷◌, length, Option, None, Some, Result, Ok, Err, slice_set}
 use Rattle.std.specs.List.{count_by}
 use Rattle.aw_lists.specs.Faults.{Rose}
-use Rattle.aw_cell.specs.Names.{is_name}
 use Rattle.aw_schema.specs.declared.definition.Def.{Def}
 use Rattle.aw_body.specs.KeptBodies.{bodies_of}
 use Rattle.aw_codec.specs.declared.record.Decoded.{Decoded}
@@ -47,13 +46,6 @@ defining definitions outcome = record { attempted = Definitions definitions; out
 -- the store has definitions
 abbrev pub IsOpen : {D : Type 0} → StoreState D → Type 0
 IsOpen store = (definitions : List Def) × (definitions_of store.records ≡ Some definitions)
-
--- what a line defines is a name
-abbrev pub DefinesName : Line → Type 0
-DefinesName (line.Definition name) = is_name name ≡ true
-DefinesName (line.Session name command) = Unit {0}
-DefinesName line.Blank = Unit {0}
-DefinesName line.Malformed = Unit {0}
 
 -- a line under a session's name
 pub record IsOfSession (text : List ℕ) : Type 0 where

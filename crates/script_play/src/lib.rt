@@ -3,6 +3,7 @@
 #![tactic(auto)]
 
 mod command;
+mod draft;
 mod ending;
 mod player;
 mod reading;

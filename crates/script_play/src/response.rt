@@ -1,5 +1,5 @@
 ghost use Rattle.std.specs.Prelude.{◌≡◌};
-ghost use Rattle.script_play.specs.StoreWorlds.{refused_response};
+ghost use Rattle.script_play.specs.StoreWorlds.{refused_response, refusing_response};
 
 use aw_cell::Text;
 use ses_report::Refusal;
@@ -14,13 +14,20 @@ pub struct Response {
 }
 
 impl Response {
+    /// A refusal, under a prefix.
+    pub fn refusing(prefix: Text, refusal: Refusal) -> Response
+        ensures { result ≡ refusing_response prefix refusal }
+    {
+        Response {
+            prefix,
+            answer: Answer::Refused(refusal),
+        }
+    }
+
     /// Refusal 1, under a prefix.
     pub fn refused(prefix: Text) -> Response
         ensures { result ≡ refused_response prefix }
     {
-        Response {
-            prefix,
-            answer: Answer::Refused(Refusal::no_form()),
-        }
+        Response::refusing(prefix, Refusal::no_form())
     }
 }

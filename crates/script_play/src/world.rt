@@ -1,22 +1,23 @@
-ghost use Rattle.std.specs.Prelude.{◌≡◌, ◌<◌, min, IfOk, OnOk, OnErr, None, Some, true, is_none, length, Err};
-ghost use Rattle.aw_cell.specs.Names.{is_name};
+ghost use Rattle.std.specs.Prelude.{◌≡◌, ◌<◌, min, IfOk, OnOk, OnErr, None, Some, is_none, length, Err};
 ghost use Rattle.aw_store.specs.Replay.{definitions_of};
 ghost use Rattle.ses_step.specs.Sessions.{Sees};
 ghost use Rattle.script_world.specs.Worlds as spec;
-ghost use Rattle.script_meaning.specs.Language.{integer};
+ghost use Rattle.script_play.specs.Drafts.{CanBeSpelled};
 ghost use Rattle.script_play.specs.StoreWorlds.{AllSee, IsSound, JoinsSo, definitions_in, own_known, own_place, placed};
 ghost use Rattle.script_play.specs.Turning.{TurnsAt, TurnWants, Answers, Wants, OpensSo, ClosesSo, FinishesWorldSo, RespondsSo, IsOpen, IsOfSession, command_means, session_means, named_means, line_means};
 
+use crate::draft::draft_definition;
 use crate::response::Response;
 use crate::stop::Stop;
 use crate::turn::take_turn;
-use aw_cell::{Kind, Text};
+use aw_cell::Text;
 use aw_disk::Disk;
-use aw_lists::{Coord, List};
-use aw_schema::{Catalogue, Def, DefKind, SchemaFault};
+use aw_lists::List;
+use aw_schema::Catalogue;
 use aw_store::{Store, StoreFault};
 use core::mem;
-use ses_step::{Answer, Command, Line, Names, Session, name_at, read_line};
+use ses_report::Refusal;
+use ses_step::{Answer, Command, Definition, Line, Names, Session, name_at, read_line};
 use std::alloc::{AllocError, Global};
 
 /// How many sessions a run may have.
@@ -31,19 +32,6 @@ pub struct StoreWorld<S> {
     pub store: S,
     pub names: Names,
     pub sessions: List<Session>,
-}
-
-/// The definition of an INTEGER variable without dimensions.
-fn integer_named(name: Text) -> Def
-    ensures { result ≡ integer name }
-{
-    Def {
-        name,
-        kind: DefKind::Variable {
-            kind: Kind::Int,
-            dimensions: Coord::of(&[]).unwrap(),
-        },
-    }
 }
 
 fn no_session() -> Text
@@ -89,19 +77,26 @@ impl<D: Disk> StoreWorld<Store<D>> {
         }
     }
 
-    /// Defines an INTEGER variable, before the definitions are written.
-    fn define(&mut self, name: Text) -> Result<Option<Response>, AllocError>
-        requires { is_name name ≡ true }
-        ensures ok { IfOk result (λ response. JoinsSo name response self.old self.new) }
+    /// Why a definition line is refused, with the definition in it or with none. One that isn't
+    /// refused joins the drafts, which it can until they are written.
+    fn define(
+        &mut self,
+        alloc: Global,
+        definition: Option<Definition>,
+    ) -> Result<Option<Refusal>, AllocError>
+        requires { CanBeSpelled self.old.drafted definition }
+        ensures ok { IfOk result (λ refusal. JoinsSo definition refusal self.old self.new) }
         ensures err { OnErr result (self.new ≡ self.old) }
     {
         if !self.is_unopened() {
-            return Ok(Some(Response::refused(no_session())));
+            return Ok(Some(Refusal::definitions_closed()));
         }
-        match self.drafted.check(integer_named(name)) {
-            Ok(_) => Ok(None),
-            Err(SchemaFault::NoMemory) => Err(AllocError),
-            Err(_) => Ok(Some(Response::refused(no_session()))),
+        match definition {
+            Some(definition) => match draft_definition(alloc, &mut self.drafted, &definition) {
+                Ok(refusal) => Ok(refusal),
+                Err(full) => Err(full),
+            },
+            None => Ok(Some(Refusal::no_form())),
         }
     }
 
@@ -259,8 +254,9 @@ impl<D: Disk> StoreWorld<Store<D>> {
         match form {
             Line::Blank => Ok(None),
             Line::Malformed => Ok(Some(Response::refused(no_session()))),
-            Line::Definition(name) => match self.define(name) {
-                Ok(response) => Ok(response),
+            Line::Definition(definition) => match self.define(alloc, definition) {
+                Ok(Some(refusal)) => Ok(Some(Response::refusing(no_session(), refusal))),
+                Ok(None) => Ok(None),
                 Err(_) => Err(Stop::NoMemory),
             },
             Line::Session { name, command } => match self.under_name(alloc, name, command) {

@@ -115,21 +115,6 @@ fn leaves(
     Ok((ended == status) & (out.bytes() == written) & (disk.bytes() == left))
 }
 
-// Whether a run of `play` over this script, on a disk with these bytes, has this status and writes this text.
-fn writes(
-    alloc: Global,
-    script: &[u8],
-    bytes: &[u8],
-    status: u8,
-    written: &[u8],
-) -> Result<bool, Fail> {
-    let mut script = source(alloc, script, None)?;
-    let mut out = sink(alloc, None)?;
-    let mut disk = disk(alloc, bytes, None)?;
-    let ended = run_word(alloc, b"play", &mut script, &mut out, &mut disk)?;
-    Ok((ended == status) & (out.bytes() == written))
-}
-
 // A run of `play` over the forms that never fail, with room for so many bytes.
 fn surely_played(alloc: Global, script: &[u8], room: u32) -> Result<(u8, Vec<u8>), Fail> {
     let mut script = SureSource::new(List::from_slice(alloc, script)?);
@@ -225,35 +210,6 @@ fn disk_faults(rt: HostRuntime) -> Result<(), Fail> {
     )?;
     assert_eq!(rt; status, 5);
     assert!(rt; written.is_empty());
-    Ok(())
-}
-
-/// A workspace with a dimension `d`, a valueset `s` over it, a relation `r` from it to itself, an INTEGER
-/// variable `w` by it, and `v` without dimensions.
-const EVERY_KIND: [u8; 45] = [
-    0x4f, 0x4c, 0x41, 0x50, 0x4d, 0x57, 0x31, 0x0a, 0x01, 0x00, 0x00, 0x00, 0x1f, 0x44, 0x01, 0x00,
-    0x05, 0x01, 0x64, 0x00, 0x01, 0x73, 0x02, 0x00, 0x00, 0x01, 0x72, 0x01, 0x00, 0x00, 0x00, 0x00,
-    0x01, 0x77, 0x03, 0x02, 0x01, 0x00, 0x00, 0x01, 0x76, 0x03, 0x02, 0x00, 0x00,
-];
-
-#[test]
-fn a_workspace_of_every_kind_is_played(rt: HostRuntime) -> Result<(), Fail> {
-    let script = b"DEFINE x VARIABLE INTEGER\n\
-        a: AW ATTACH MULTI\n\
-        a: ACQUIRE d\n\
-        a: SHOW d\n\
-        a: SHOW w\n\
-        a: SHOW v\n\
-        a: ACQUIRE v\n\
-        a: v = 7\n\
-        a: UPDATE\n\
-        a: COMMIT\n\
-        b: AW ATTACH MULTI\n\
-        b: SHOW v\n\
-        b: ACQUIRE d\n";
-    let transcript = b"*: ERROR 1 1\na: ok\na: ok\na: ERROR 1 1\na: ERROR 1 1\na: NA\n\
-        a: ok\na: ok\na: ok\na: ok\nb: ok\nb: 7\nb: ERROR 17 d a\n";
-    assert!(rt; writes(rt.alloc(), script, &EVERY_KIND, 1, transcript)?);
     Ok(())
 }
 

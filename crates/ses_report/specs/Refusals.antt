@@ -8,6 +8,22 @@ use Rattle.ses_report.specs.declared.refusal.Refusal.{Refusal}
 abbrev pub no_form : Refusal
 no_form = record { number = 1; line = 0; detail = Column 1 }
 
+-- 2: no object of this name is defined
+abbrev pub unknown : List ℕ → Refusal
+unknown name = record { number = 2; line = 0; detail = One name }
+
+-- 3: the object isn't of the kind that is wanted
+abbrev pub wrong_kind : List ℕ → Refusal
+wrong_kind name = record { number = 3; line = 0; detail = One name }
+
+-- 7: an object of this name is there already, or the dimension comes twice
+abbrev pub repeated : List ℕ → Refusal
+repeated name = record { number = 7; line = 0; detail = One name }
+
+-- 14: there would be too many objects, or dimensions of a variable
+abbrev pub too_many : Refusal
+too_many = record { number = 14; line = 0; detail = Nothing }
+
 -- 14: the record of a commit would have too many bytes
 abbrev pub too_large : Refusal
 too_large = record { number = 14; line = 0; detail = Nothing }
@@ -31,6 +47,10 @@ newer object number = record { number = 18; line = 0; detail = Count object numb
 -- 19: the session doesn't own the object
 abbrev pub not_acquired : List ℕ → Refusal
 not_acquired object = record { number = 19; line = 0; detail = One object }
+
+-- 21: no object can be defined any more
+abbrev pub definitions_closed : Refusal
+definitions_closed = record { number = 21; line = 0; detail = Nothing }
 
 -- 22: the object has the last generation that can be numbered
 abbrev pub full : List ℕ → Refusal

@@ -49,6 +49,35 @@ impl Refusal {
         Refusal::of(1, Detail::Column(1))
     }
 
+    /// Refusal 2: no object of this name is defined. The name is given as it was written.
+    pub fn unknown(name: Text) -> Refusal
+        ensures { result ≡ spec.unknown name }
+    {
+        Refusal::of(2, Detail::One(name))
+    }
+
+    /// Refusal 3: the object isn't of the kind that is wanted. It is given by its name.
+    pub fn wrong_kind(object: Text) -> Refusal
+        ensures { result ≡ spec.wrong_kind object }
+    {
+        Refusal::of(3, Detail::One(object))
+    }
+
+    /// Refusal 7: an object of this name is there already, or the dimension comes twice. It is given
+    /// by its name.
+    pub fn repeated(object: Text) -> Refusal
+        ensures { result ≡ spec.repeated object }
+    {
+        Refusal::of(7, Detail::One(object))
+    }
+
+    /// Refusal 14: there would be more than 4,096 objects, or a variable of more than 6 dimensions.
+    pub fn too_many() -> Refusal
+        ensures { result ≡ spec.too_many }
+    {
+        Refusal::of(14, Detail::Nothing)
+    }
+
     /// Refusal 14: the record of a commit would have more than 67,108,864 bytes.
     pub fn too_large() -> Refusal
         ensures { result ≡ spec.too_large }
@@ -89,6 +118,13 @@ impl Refusal {
         ensures { result ≡ spec.not_acquired object }
     {
         Refusal::of(19, Detail::One(object))
+    }
+
+    /// Refusal 21: no object can be defined any more.
+    pub fn definitions_closed() -> Refusal
+        ensures { result ≡ spec.definitions_closed }
+    {
+        Refusal::of(21, Detail::Nothing)
     }
 
     /// Refusal 22: the object has the last generation that can be numbered.

@@ -29,8 +29,11 @@ fn prints_refusals(rt: HostRuntime) -> Result<(), Fail> {
         line: 3,
         detail: Detail::Column(12),
     };
-    let cases: [(&[u8], Refusal, &[u8]); 8] = [
+    let cases: [(&[u8], Refusal, &[u8]); 11] = [
         (b"*", Refusal::no_form(), b"*: ERROR 1 1\n"),
+        (b"*", Refusal::unknown(v), b"*: ERROR 2 v\n"),
+        (b"*", Refusal::repeated(v), b"*: ERROR 7 v\n"),
+        (b"*", Refusal::definitions_closed(), b"*: ERROR 21\n"),
         (b"", Refusal::not_attached(), b"ERROR 15\n"),
         (b"a", Refusal::owned_by(v, b), b"a: ERROR 17 v b\n"),
         (b"a", Refusal::newer(v, 2), b"a: ERROR 18 v 2\n"),

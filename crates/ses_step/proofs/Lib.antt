@@ -1,5 +1,6 @@
 mod Integers
 mod Texts
+mod Pieces
 mod FirstPlaces
 mod Worked
 pub mod Seeing

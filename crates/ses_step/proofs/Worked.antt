@@ -2,7 +2,7 @@
 use Rattle.std.specs.Prelude.{ℕ, ℤ, ◌≡◌, List, [], ◌∷◌, codes, pos, Some, None}
 use Rattle.std.proofs.Common.{refl}
 use Rattle.aw_cell.specs.declared.cell.Cell.TheVariants.{Int}
-use Rattle.aw_cell.specs.declared.cell.Kind.TheVariants.{Int as Integer}
+use Rattle.aw_cell.specs.declared.cell.Kind.TheVariants.{Num as Number, Int as Integer, Text as Words, Bool as Truth}
 use Rattle.aw_schema.specs.declared.definition.Def.{Def}
 use Rattle.aw_schema.specs.declared.definition.DefKind.{DefKind}
 use Rattle.aw_schema.specs.declared.definition.DefKind.TheVariants.{Valueset, Variable, Formula}
@@ -16,6 +16,8 @@ use Rattle.mv_core.specs.declared.entry.Reply.TheVariants as reply
 use Rattle.ses_report.specs.Refusals.{no_form, not_attached, already_attached, too_large, newer}
 use Rattle.ses_step.specs.declared.answer.Answer.{Answer}
 use Rattle.ses_step.specs.declared.answer.Answer.TheVariants.{Done, Shown, Refused}
+use Rattle.ses_step.specs.declared.definition.NamedKind.{NamedKind}
+use Rattle.ses_step.specs.declared.definition.NamedKind.TheVariants as named
 use Rattle.ses_step.specs.declared.line.Command.{Command}
 use Rattle.ses_step.specs.declared.line.Command.TheVariants.{Attach, Acquire, Assign, Update, Commit, Show}
 use Rattle.ses_step.specs.declared.line.Line.TheVariants as line
@@ -37,12 +39,74 @@ an_assignment = refl
 too_great : line_form (codes "b: v = 2147483648") ≡ line.Session (codes "b") None
 too_great = refl
 
-a_definition : line_form (codes "DEFINE v VARIABLE INTEGER") ≡ line.Definition (codes "v")
-a_definition = refl
-
 -- without the colon
 no_session : line_form (codes "b SHOW v") ≡ line.Malformed
 no_session = refl
+
+-- ---- definitions
+
+-- v is to be this
+defines : List ℕ → NamedKind → Type 0
+defines text kind = line_form text ≡ line.Definition (Some (record { name = codes "v"; kind = kind }))
+
+d : List ℕ
+d = codes "d"
+
+e : List ℕ
+e = codes "e"
+
+a_dimension : defines (codes "define v dimension text") named.Dimension
+unfolding defines
+a_dimension = refl
+
+a_relation : defines (codes "DEFINE v RELATION T<e> \" both") (named.Relation (codes "T") e)
+unfolding defines e
+a_relation = refl
+
+a_valueset : defines (codes "DEFINE v VALUESET e\"") (named.Valueset e)
+unfolding defines e
+a_valueset = refl
+
+a_single_variable : defines (codes "DEFINE v VARIABLE BOOLEAN") (named.Variable Truth [])
+unfolding defines
+a_single_variable = refl
+
+-- names of dimensions with and without commas and blanks
+with_commas : defines (codes "DEFINE v VARIABLE NUMBER<d,e>") (named.Variable Number (d ∷ e ∷ []))
+unfolding defines d e
+with_commas = refl
+
+with_blanks : defines (codes "DEFINE v VARIABLE NUMBER < d e >") (named.Variable Number (d ∷ e ∷ []))
+unfolding defines d e
+with_blanks = refl
+
+-- that 7 dimensions are too many is no matter of form
+seven_dimensions : defines (codes "DEFINE v VARIABLE TEXT <d e d e d e d>") (named.Variable Words (d ∷ e ∷ d ∷ e ∷ d ∷ e ∷ d ∷ []))
+unfolding defines d e
+seven_dimensions = refl
+
+no_dimension : line_form (codes "DEFINE v VARIABLE NUMBER <>") ≡ line.Definition None
+no_dimension = refl
+
+never_closed : line_form (codes "DEFINE v VARIABLE NUMBER <d") ≡ line.Definition None
+never_closed = refl
+
+comma_at_the_end : line_form (codes "DEFINE v VARIABLE NUMBER <d,>") ≡ line.Definition None
+comma_at_the_end = refl
+
+-- the colon of a session stands directly behind its name
+of_a_session : line_form (codes "DEFINE: UPDATE") ≡ line.Session (codes "DEFINE") (Some Update)
+of_a_session = refl
+
+colon_apart : line_form (codes "DEFINE : UPDATE") ≡ line.Definition None
+colon_apart = refl
+
+-- the first word ends where no letter, digit, `_` or `.` stands
+word_at_a_mark : line_form (codes "DEFINE=v") ≡ line.Definition None
+word_at_a_mark = refl
+
+longer_word : line_form (codes "DEFINE.v VARIABLE NUMBER") ≡ line.Malformed
+longer_word = refl
 
 -- ---- an INTEGER variable v, a valueset chosen and a formula f
 

@@ -8,8 +8,9 @@ use Rattle.ses_step.specs.declared.line.Line.{Line}
 use Rattle.ses_step.specs.declared.line.Line.TheVariants.{Blank, Malformed, Definition, Session}
 use Rattle.ses_step.specs.declared.line.Command.{Command}
 use Rattle.ses_step.specs.declared.line.Command.TheVariants.{Attach, Acquire, Assign, Update, Commit, Show}
-use Rattle.aw_cell.specs.Names.{is_digit, is_word_byte, begins_with, same_word, is_name}
+use Rattle.aw_cell.specs.Names.{is_digit, is_word_byte, begins_with, same_word}
 use Rattle.ses_step.specs.Words.{is_blank, is_session_name, before_comment, words}
+use Rattle.ses_step.specs.DefinitionLines.{is_definition_line, pieces, definition_in}
 
 -- a tab, or from the blank to the tilde
 abbrev pub is_line_byte : ℕ → Bool
@@ -69,19 +70,6 @@ command_in (a ∷ b ∷ []) = two_words a b
 command_in (a ∷ b ∷ c ∷ []) = three_words a b c
 command_in _ = None
 
--- ---- definitions
-
-abbrev pub is_definition : List ℕ → List ℕ → List ℕ → List ℕ → Bool
-is_definition a b c d =
-    same_word a (codes "DEFINE") && is_name b && same_word c (codes "VARIABLE") && same_word d (codes "INTEGER")
-
-abbrev pub definition : List ℕ → List ℕ → List ℕ → List ℕ → Line
-definition a b c d = if is_definition a b c d then Definition b else Malformed
-
-abbrev pub definition_in : List (List ℕ) → Line
-definition_in (a ∷ b ∷ c ∷ d ∷ []) = definition a b c d
-definition_in _ = Malformed
-
 -- ---- lines
 
 abbrev pub begins_with_colon : List ℕ → Bool
@@ -97,8 +85,10 @@ session_line text =
     Session (take (prefix_len is_word_byte text) text)
     (command_in (words (before_comment (drop (prefix_len is_word_byte text + 1) text))))
 
+-- what is no session line: a definition, which may be of no form, or nothing known
 abbrev pub definition_line : List ℕ → Line
-definition_line text = definition_in (words (before_comment text))
+definition_line text =
+    if is_definition_line text then Definition (definition_in (pieces (before_comment text))) else Malformed
 
 abbrev pub line_in : List ℕ → Line
 line_in text =

@@ -3,6 +3,7 @@
 #![tactic(auto)]
 
 mod answer;
+mod definition;
 mod line;
 mod names;
 mod objects;
@@ -10,6 +11,7 @@ mod session;
 mod word;
 
 pub use answer::{Answer, append_line};
+pub use definition::{Definition, NamedKind};
 pub use line::{Command, Line, read_line};
 pub use names::Names;
 pub use objects::name_at;

@@ -6,8 +6,9 @@ ghost use Rattle.ses_step.specs.Words.{is_blank};
 ghost use Rattle.ses_step.specs.Lines as spec;
 ghost use Rattle.ses_step.specs.Lines.{line_form};
 
+use crate::definition::{Definition, definition_in, is_definition_line, spaced};
 use crate::word::{before_comment, is_blank, is_session_name, words};
-use aw_cell::{Text, is_name, is_same_word, is_word_byte};
+use aw_cell::{Text, is_same_word, is_word_byte};
 use std::alloc::{AllocError, Global};
 
 /// What a session asks for in a line (docs/LANGUAGE.md, "Statements"). Names stand as they were
@@ -29,14 +30,14 @@ pub enum Command {
 }
 
 /// What a line of a script is (docs/LANGUAGE.md, "Statements").
-#[derive(Clone, Copy, PartialEq, Eq)]
+#[derive(PartialEq, Eq, Drop)]
 pub enum Line {
     /// Passed over: nothing, blanks or a comment.
     Blank,
     /// Of no form, and under no session's name.
     Malformed,
-    /// Defines an INTEGER variable of this name.
-    Definition(Text),
+    /// Begins with DEFINE; without a definition where the rest is of no form.
+    Definition(Option<Definition>),
     /// Under the name of a session; without a command where the rest is of no form.
     Session {
         name: Text,
@@ -199,34 +200,6 @@ fn command_in(words: &[&[u8]]) -> Option<Command>
     }
 }
 
-fn is_definition(first: &[u8], name: &[u8], third: &[u8], fourth: &[u8]) -> bool
-    ensures { result ≡ spec.is_definition first.now name.now third.now fourth.now }
-{
-    is_same_word(first, b"DEFINE")
-        && is_name(name)
-        && is_same_word(third, b"VARIABLE")
-        && is_same_word(fourth, b"INTEGER")
-}
-
-fn definition(first: &[u8], name: &[u8], third: &[u8], fourth: &[u8]) -> Line
-    ensures { result ≡ spec.definition first.now name.now third.now fourth.now }
-{
-    if is_definition(first, name, third, fourth) {
-        Line::Definition(text_of(name))
-    } else {
-        Line::Malformed
-    }
-}
-
-fn definition_in(words: &[&[u8]]) -> Line
-    ensures { result ≡ spec.definition_in (map (λ word. word.now) words.now) }
-{
-    match words {
-        [first, name, third, fourth] => definition(first, name, third, fourth),
-        _ => Line::Malformed,
-    }
-}
-
 fn has_prefix(text: &[u8]) -> bool
     ensures { result ≡ spec.has_prefix text.now }
 {
@@ -250,8 +223,12 @@ fn session_line(alloc: Global, text: &[u8]) -> Result<Line, AllocError>
 fn definition_line(alloc: Global, text: &[u8]) -> Result<Line, AllocError>
     ensures { IfOk result (λ read. read ≡ spec.definition_line text.now) }
 {
-    let words = words(alloc, before_comment(text))?;
-    Ok(definition_in(&words))
+    if !is_definition_line(text) {
+        return Ok(Line::Malformed);
+    }
+    let spaced = spaced(alloc, before_comment(text))?;
+    let pieces = words(alloc, &spaced)?;
+    Ok(Line::Definition(definition_in(alloc, &pieces)?))
 }
 
 fn line_in(alloc: Global, text: &[u8]) -> Result<Line, AllocError>
@@ -281,96 +258,164 @@ pub fn read_line(alloc: Global, line: &[u8]) -> Result<Line, AllocError>
 #[cfg(test)]
 mod tests {
     use super::*;
+    use crate::definition::NamedKind;
+    use aw_cell::Kind;
+    use aw_lists::List;
     use std::test::Fail;
 
     fn text(bytes: &[u8]) -> Result<Text, Fail> {
         Ok(Text::of(bytes).ok_or("no text")?)
     }
 
-    fn session(name: &[u8], command: Option<Command>) -> Result<Line, Fail> {
+    fn is_read(alloc: Global, line: &[u8], form: Line) -> Result<bool, Fail> {
+        Ok(read_line(alloc, line)? == form)
+    }
+
+    fn defines(alloc: Global, line: &[u8], name: &[u8], kind: NamedKind) -> Result<bool, Fail> {
         let name = text(name)?;
-        Ok(Line::Session { name, command })
+        is_read(
+            alloc,
+            line,
+            Line::Definition(Some(Definition { name, kind })),
+        )
+    }
+
+    /// Whether a line defines `v` as a NUMBER over the dimensions `d` and `e`.
+    fn is_over_both(alloc: Global, line: &[u8]) -> Result<bool, Fail> {
+        let mut dimensions = List::new(alloc);
+        dimensions.push(text(b"d")?)?;
+        dimensions.push(text(b"e")?)?;
+        let kind = NamedKind::Variable {
+            kind: Kind::Num,
+            dimensions,
+        };
+        defines(alloc, line, b"v", kind)
+    }
+
+    fn is_single(alloc: Global, line: &[u8], name: &[u8], kind: Kind) -> Result<bool, Fail> {
+        let kind = NamedKind::Variable {
+            kind,
+            dimensions: List::new(alloc),
+        };
+        defines(alloc, line, name, kind)
     }
 
     #[test]
     fn reads_definitions(rt: HostRuntime) -> Result<(), Fail> {
+        let d = text(b"d")?;
+        let relation = NamedKind::Relation {
+            target: text(b"T")?,
+            base: d,
+        };
+        let set = NamedKind::Valueset { dimension: d };
+        let dimension = NamedKind::Dimension;
+        let mut all = defines(rt.alloc(), b"DEFINE d DIMENSION TEXT", b"d", dimension)?;
+        all &= defines(rt.alloc(), b"define r\tRelation T<d>", b"r", relation)?;
+        all &= defines(rt.alloc(), b"DEFINE s VALUESET d\" <d>", b"s", set)?;
+        assert!(rt; all);
+        Ok(())
+    }
+
+    #[test]
+    fn reads_variables(rt: HostRuntime) -> Result<(), Fail> {
         let longest = b"a23456789_123456789_123456789_123456789_123456789_123456789_1234";
-        let blanks = [b' '; 4097];
-        let cases: [(&[u8], Line); 14] = [
-            (&blanks[..4096], Line::Blank),
-            (&blanks, Line::Malformed),
-            (b"", Line::Blank),
-            (b" \t ", Line::Blank),
-            (b"\t\" a: SHOW v", Line::Blank),
-            (
-                b"define v\tVariable INTEGER\" cells",
-                Line::Definition(text(b"v")?),
-            ),
-            (
-                b"DEFINE v.1_a VARIABLE INTEGER",
-                Line::Definition(text(b"v.1_a")?),
-            ),
-            (
-                b"DEFINE a23456789_123456789_123456789_123456789_123456789_123456789_1234 VARIABLE INTEGER",
-                Line::Definition(text(longest)?),
-            ),
-            (
-                b"DEFINE a23456789_123456789_123456789_123456789_123456789_123456789_12345 VARIABLE INTEGER",
-                Line::Malformed,
-            ),
-            (b"DEFINE 1v VARIABLE INTEGER", Line::Malformed),
-            (b"DEFINE Show VARIABLE INTEGER", Line::Malformed),
-            (b"DEFINE : VARIABLE INTEGER", Line::Malformed),
-            (b"DEFINE v VARIABLE INTEGER 7", Line::Malformed),
-            (b"v=7", Line::Malformed),
+        let long_line =
+            b"DEFINE a23456789_123456789_123456789_123456789_123456789_123456789_1234 VARIABLE TEXT";
+        let mut all = is_over_both(rt.alloc(), b"DEFINE v VARIABLE NUMBER<d,e>")?;
+        all &= is_over_both(rt.alloc(), b"DEFINE v VARIABLE NUMBER < d e > ")?;
+        all &= is_single(
+            rt.alloc(),
+            b"DEFINE v.1_a VARIABLE boolean",
+            b"v.1_a",
+            Kind::Bool,
+        )?;
+        all &= is_single(rt.alloc(), b"DEFINE v VARIABLE INTEGER\"", b"v", Kind::Int)?;
+        all &= is_single(rt.alloc(), long_line, longest, Kind::Text)?;
+        assert!(rt; all);
+        Ok(())
+    }
+
+    #[test]
+    fn refuses_other_definitions(rt: HostRuntime) -> Result<(), Fail> {
+        let lines: [&[u8]; 16] = [
+            b"DEFINE",
+            b"DEFINE : VARIABLE INTEGER",
+            b"DEFINE=v VARIABLE INTEGER",
+            b"DEFINE 1v VARIABLE INTEGER",
+            b"DEFINE Show VARIABLE INTEGER",
+            b"DEFINE a23456789_123456789_123456789_123456789_123456789_123456789_12345 VARIABLE INTEGER",
+            b"DEFINE v VARIABLE",
+            b"DEFINE v VARIABLE INTEGER 7",
+            b"DEFINE v VARIABLE INTEGER <>",
+            b"DEFINE v VARIABLE INTEGER <d",
+            b"DEFINE v VARIABLE INTEGER <d,>",
+            b"DEFINE v VARIABLE INTEGER <d,,e>",
+            b"DEFINE v VARIABLE INTEGER <d> e",
+            b"DEFINE r RELATION t <d e>",
+            b"DEFINE d DIMENSION INTEGER",
+            b"DEFINE f FORMULA 7",
         ];
-        for (line, form) in cases {
-            assert!(rt; read_line(rt.alloc(), line)? == form);
+        for line in lines {
+            assert!(rt; is_read(rt.alloc(), line, Line::Definition(None))?);
         }
         Ok(())
     }
 
     #[test]
+    fn reads_lines_without_a_session(rt: HostRuntime) -> Result<(), Fail> {
+        let blanks = [b' '; 4097];
+        let mut all = is_read(rt.alloc(), &blanks[..4096], Line::Blank)?;
+        all &= is_read(rt.alloc(), &blanks, Line::Malformed)?;
+        all &= is_read(rt.alloc(), b"", Line::Blank)?;
+        all &= is_read(rt.alloc(), b"\t\" a: SHOW v", Line::Blank)?;
+        all &= is_read(rt.alloc(), b"v=7", Line::Malformed)?;
+        all &= is_read(rt.alloc(), b"DEFINE.v VARIABLE INTEGER", Line::Malformed)?;
+        all &= is_read(rt.alloc(), b"abcdefghijklmnopq: COMMIT", Line::Malformed)?;
+        all &= is_read(rt.alloc(), b"a.b: COMMIT", Line::Malformed)?;
+        all &= is_read(rt.alloc(), b"a : COMMIT", Line::Malformed)?;
+        all &= is_read(rt.alloc(), b"a: COMMIT\r", Line::Malformed)?;
+        assert!(rt; all);
+        Ok(())
+    }
+
+    fn asks(
+        alloc: Global,
+        line: &[u8],
+        name: &[u8],
+        command: Option<Command>,
+    ) -> Result<bool, Fail> {
+        let name = text(name)?;
+        is_read(alloc, line, Line::Session { name, command })
+    }
+
+    #[test]
     fn reads_session_lines(rt: HostRuntime) -> Result<(), Fail> {
-        let v = text(b"v")?;
-        let cases: [(&[u8], Line); 16] = [
-            (b"a:", session(b"a", None)?),
-            (b"a:AW Attach MULTI", session(b"a", Some(Command::Attach))?),
-            (b"\tA: acquire v", session(b"A", Some(Command::Acquire(v)))?),
-            (
-                b"a: v = 2147483647",
-                session(
-                    b"a",
-                    Some(Command::Assign {
-                        name: v,
-                        value: 2147483647,
-                    }),
-                )?,
-            ),
-            (
-                b"a: v = 000000000007",
-                session(b"a", Some(Command::Assign { name: v, value: 7 }))?,
-            ),
-            (b"a: v = 2147483648", session(b"a", None)?),
-            (b"a: v = +7", session(b"a", None)?),
-            (b"a: v=7", session(b"a", None)?),
-            (b"a: SHOW v \" x", session(b"a", Some(Command::Show(v)))?),
-            (b"a: SHOW v x", session(b"a", None)?),
-            (
-                b"DEFINE: UPDATE",
-                session(b"DEFINE", Some(Command::Update))?,
-            ),
+        let name = text(b"v")?;
+        let most = Command::Assign {
+            name,
+            value: 2147483647,
+        };
+        let seven = Command::Assign { name, value: 7 };
+        let cases: [(&[u8], &[u8], Option<Command>); 12] = [
+            (b"a:", b"a", None),
+            (b"a:AW Attach MULTI", b"a", Some(Command::Attach)),
+            (b"\tA: acquire v", b"A", Some(Command::Acquire(name))),
+            (b"a: v = 2147483647", b"a", Some(most)),
+            (b"a: v = 000000000007", b"a", Some(seven)),
+            (b"a: v = 2147483648", b"a", None),
+            (b"a: v = +7", b"a", None),
+            (b"a: v=7", b"a", None),
+            (b"a: SHOW v \" x", b"a", Some(Command::Show(name))),
+            (b"a: SHOW v x", b"a", None),
+            (b"DEFINE: UPDATE", b"DEFINE", Some(Command::Update)),
             (
                 b"abcdefghijklmnop: COMMIT",
-                session(b"abcdefghijklmnop", Some(Command::Commit))?,
+                b"abcdefghijklmnop",
+                Some(Command::Commit),
             ),
-            (b"abcdefghijklmnopq: COMMIT", Line::Malformed),
-            (b"a.b: COMMIT", Line::Malformed),
-            (b"a : COMMIT", Line::Malformed),
-            (b"a: COMMIT\r", Line::Malformed),
         ];
-        for (line, form) in cases {
-            assert!(rt; read_line(rt.alloc(), line)? == form);
+        for (line, name, command) in cases {
+            assert!(rt; asks(rt.alloc(), line, name, command)?);
         }
         Ok(())
     }

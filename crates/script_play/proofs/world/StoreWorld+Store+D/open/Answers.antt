@@ -3,7 +3,7 @@ use Rattle.aw_schema.specs.declared.definition.Def.{Def}
 use Rattle.aw_schema.specs.RecordLength.{record_len}
 use Rattle.aw_store.specs.Replay.{are_replayed}
 use Rattle.script_play.proofs.Opening.{opens_by, fails_by}
-use Rattle.script_play.proofs.Writable.{record_len-below, replayed-all}
+use Rattle.script_meaning.proofs.callers.Defining.{record_len-below}
 use Rattle.script_play.proofs.world.StoreWorld+Store+D.open.Goals as goal
 
 pub define-requires-clause-size : goal.define-requires-clause-size
@@ -12,7 +12,7 @@ define-requires-clause-size g c =
 
 pub define-requires-clause-kinds : goal.define-requires-clause-kinds
 define-requires-clause-kinds g c =
-    subst (λ (definitions : List Def). IsTrue (are_replayed definitions)) (sym c.replace-drafted.ensures.value) (replayed-all c.args.self.now.drafted (c.requires.sound.writable c.requires.unopened))
+    subst (λ (definitions : List Def). IsTrue (are_replayed definitions)) (sym c.replace-drafted.ensures.value) (c.requires.sound.writable c.requires.unopened).replayed
 
 pub returns-in-Ok : goal.returns-in-Ok
 returns-in-Ok g c = record {

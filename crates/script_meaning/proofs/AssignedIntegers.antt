@@ -12,9 +12,10 @@ use Rattle.ses_step.specs.declared.line.Line.{Line}
 use Rattle.ses_step.specs.declared.line.Line.TheVariants as line
 use Rattle.ses_step.specs.declared.line.Command.{Command}
 use Rattle.ses_step.specs.declared.line.Command.TheVariants as command
-use Rattle.aw_cell.specs.Names.{same_word, is_name, is_digit, is_word_byte}
+use Rattle.aw_cell.specs.Names.{same_word, is_digit, is_word_byte}
+use Rattle.ses_step.specs.DefinitionLines.{is_definition_line, pieces, definition_in}
 use Rattle.ses_step.specs.Words.{before_comment, words}
-use Rattle.ses_step.specs.Lines.{keeps_form, after_blanks, is_passed_over, name_in, integer_in, one_word, two_words, assignment, three_words, command_in, is_definition, definition_in, has_prefix, session_line, line_in, line_form}
+use Rattle.ses_step.specs.Lines.{keeps_form, after_blanks, is_passed_over, name_in, integer_in, one_word, two_words, assignment, three_words, command_in, has_prefix, session_line, definition_line, line_in, line_form}
 use Rattle.script_world.proofs.callers.Moves.{if-holds}
 
 -- an INTEGER that a record can hold
@@ -22,10 +23,10 @@ abbrev pub AssignsInteger : Command → Type 0
 AssignsInteger (command.Assign name value) = IsSpelled (Int value)
 AssignsInteger _ = Unit {0}
 
--- what a line assigns is one, and what it defines is a name
+-- what a line assigns is one
 abbrev pub HasInteger : Line → Type 0
 HasInteger (line.Session name command) = ForSome command AssignsInteger
-HasInteger (line.Definition name) = is_name name ≡ true
+HasInteger (line.Definition found) = Unit {0}
 HasInteger line.Blank = Unit {0}
 HasInteger line.Malformed = Unit {0}
 
@@ -95,25 +96,15 @@ command_in-integer (a ∷ b ∷ []) = two_words-integer a b
 command_in-integer (a ∷ b ∷ c ∷ []) = three_words-integer a b c
 command_in-integer (a ∷ b ∷ c ∷ d ∷ words) = none-integer
 
-definition_in-integer : (words : List (List ℕ)) → HasInteger (definition_in words)
-definition_in-integer (a ∷ b ∷ c ∷ d ∷ []) = by_test (is_definition a b c d) refl
-  where
-    by_test : (test : Bool) → is_definition a b c d ≡ test → HasInteger (if test then line.Definition b else line.Malformed)
-    by_test false is = tt
-    by_test true is =
-        let first = and_parts (same_word a (codes "DEFINE") && is_name b && same_word c (codes "VARIABLE")) (same_word d (codes "INTEGER")) is in
-        let next = and_parts (same_word a (codes "DEFINE") && is_name b) (same_word c (codes "VARIABLE")) first.0 in
-        (and_parts (same_word a (codes "DEFINE")) (is_name b) next.0).1
-definition_in-integer _ = tt
-
 session_line-integer : (text : List ℕ) → HasInteger (session_line text)
 session_line-integer text = command_in-integer (words (before_comment (drop (prefix_len is_word_byte text + 1) text)))
 
 pub line_form-integer : (l : List ℕ) → HasInteger (line_form l)
 line_form-integer l =
     let text = after_blanks l in
-    let formed = if has_prefix text then session_line text else definition_in (words (before_comment text)) in
+    let read = if has_prefix text then session_line text else definition_line text in
     if-holds HasInteger (keeps_form l) (line_in text) line.Malformed
-    (if-holds HasInteger (is_passed_over text) line.Blank formed tt
-    (if-holds HasInteger (has_prefix text) (session_line text) (definition_in (words (before_comment text))) (session_line-integer text) (definition_in-integer (words (before_comment text)))))
+    (if-holds HasInteger (is_passed_over text) line.Blank read tt
+    (if-holds HasInteger (has_prefix text) (session_line text) (definition_line text) (session_line-integer text)
+    (if-holds HasInteger (is_definition_line text) (line.Definition (definition_in (pieces (before_comment text)))) line.Malformed tt tt)))
     tt
