@@ -1,5 +1,5 @@
 pub mod Composing
 pub mod Rising
-pub mod PatchLaws
 pub mod CallerLemmas
 pub mod DifferenceForm
+pub mod callers

@@ -17,7 +17,7 @@ use Rattle.aw_schema.specs.Definitions.{is_spellable, has_form, has_name, object
 use Rattle.aw_schema.specs.Checking.{AreAccepted, refusal, repeated_name}
 use Rattle.aw_schema.specs.RecordLength.{definition_len, record_len}
 use Rattle.aw_schema.specs.inside.Indexed.{IsIndexed}
-use Rattle.aw_schema.proofs.Finding.{object_of-indexed, found-same}
+use Rattle.aw_schema.proofs.callers.Finding.{object_of-indexed, found-same}
 use Rattle.aw_schema.proofs.Accepting.{accepted-push}
 
 pub form-spellable : (def : Def) → IsTrue (is_spellable def) → IsTrue (has_form def.kind)

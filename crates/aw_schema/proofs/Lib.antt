@@ -1,3 +1,3 @@
-pub mod Finding
 pub mod Accepting
 pub mod Adding
+pub mod callers

@@ -122,7 +122,7 @@ impl Catalogue {
     }
 
     /// The refusal where an object has this name already.
-    #[tactic(auto, using(crate::proofs::Finding::repeated_name_found))]
+    #[tactic(auto, using(crate::proofs::callers::Finding::repeated_name_found))]
     fn repeated_name(&self, name: &Text) -> Option<SchemaFault>
         ensures { result ≡ checking.repeated_name self.now name.now }
     {

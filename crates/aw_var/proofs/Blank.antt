@@ -11,7 +11,7 @@ use Rattle.aw_cell.specs.declared.cell.Cell.TheVariants.{Na}
 use Rattle.aw_cell.specs.Cell.{same_cell}
 use Rattle.aw_cell.specs.SameCell.{same_cell-Decides}
 use Rattle.aw_page.specs.Fitting.{is_na}
-use Rattle.aw_var.proofs.FiniteMaps.{and_true}
+use Rattle.aw_var.proofs.callers.FiniteMaps.{and_true}
 use Rattle.aw_var.proofs.Puts.{get_or-all_na}
 
 pub all_na : (cells : List Cell) → ((k : ℕ) → k < length cells → get_or cells k Na ≡ Na) → list_all is_na cells ≡ true

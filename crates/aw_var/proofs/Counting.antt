@@ -13,7 +13,7 @@ use Rattle.aw_var.specs.CellMap.{IsMapBy}
 use Rattle.aw_var.specs.inside.NumberedMap.{cell_of, set_of}
 use Rattle.aw_var.specs.inside.Sheets.{Sheets, numbered, all_numbered, AreCounted, PutsCell, sheet_at, weight}
 use Rattle.aw_var.specs.inside.Differences.{cell_on}
-use Rattle.aw_var.proofs.FiniteMaps.{both_true, to_T}
+use Rattle.aw_var.proofs.callers.FiniteMaps.{both_true, to_T}
 use Rattle.aw_var.proofs.Sheets.{EachSheet, EachSheet-AreSheets, IsMapBy-all, cell_of-all}
 use Rattle.aw_var.proofs.Puts.{all_numbered-put, AreSheets-put}
 

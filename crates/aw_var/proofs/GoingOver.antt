@@ -15,7 +15,7 @@ use Rattle.aw_var.specs.inside.Sheets.{SheetCells, Sheets, numbered, all_numbere
 use Rattle.aw_var.specs.inside.Differences.{cell_on, changes_on, lesser_of, ChangesFit}
 use Rattle.aw_var.specs.inside.Walks.{first_page, TakesSheet}
 use Rattle.aw_var.specs.inside.Unpacking.{unpacked, with_coords, AreNumbersOf}
-use Rattle.aw_var.proofs.FiniteMaps.{both_true, equal_of}
+use Rattle.aw_var.proofs.callers.FiniteMaps.{both_true, equal_of}
 use Rattle.aw_var.proofs.Puts.{shown}
 use Rattle.aw_var.proofs.Sheets.{is_sorted_of, EachSheet-AreSheets}
 use Rattle.aw_var.proofs.Unpacking.{below}

@@ -13,7 +13,7 @@ use Rattle.aw_page.specs.Fitting.{is_na}
 use Rattle.aw_var.specs.inside.Sheets.{SheetCells, Sheets, numbered, all_numbered}
 use Rattle.aw_var.specs.inside.Walks.{used_on, IsFirstUsed, numbers_left, TakesNumber}
 use Rattle.aw_var.specs.inside.Unpacking.{AreNumbersOf}
-use Rattle.aw_var.proofs.FiniteMaps.{both_true}
+use Rattle.aw_var.proofs.callers.FiniteMaps.{both_true}
 use Rattle.aw_var.proofs.Unpacking.{below}
 use denote.Ref.{Bor}
 use Rattle.std.specs.Map.Iter.{GivesInOrder}

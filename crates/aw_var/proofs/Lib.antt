@@ -1,4 +1,3 @@
-pub mod FiniteMaps
 pub mod Numbers
 pub mod Sheets
 pub mod Puts
@@ -13,3 +12,4 @@ pub mod Valid
 pub mod Iterating
 pub mod Counting
 pub mod PageCells
+pub mod callers

@@ -7,7 +7,7 @@ use Rattle.std.specs.Cmp.{nat_cmp_is}
 use Rattle.std.specs.FinMap.{find, is_sorted}
 use Rattle.std.specs.FinMap.Entries.{below_all}
 use Rattle.std.proofs.lemmas.Bool.Decides.{Decides-ltb, leb_tells}
-use Rattle.aw_var.proofs.FiniteMaps.{both_true, and_true, either}
+use Rattle.aw_var.proofs.callers.FiniteMaps.{both_true, and_true, either}
 
 pub at_same : (x y : ℕ) → x ≡ y → is_eq (nat_cmp x y) ≡ true
 at_same x y e = ap is_eq (sym (nat_cmp_is x y Equal e))

@@ -16,7 +16,7 @@ use Rattle.aw_var.specs.inside.NumberedPages.{HasNoSheet, AreCellsOn}
 use Rattle.aw_var.specs.inside.Sheets.{SheetCells, Sheets, all_numbered, AreSheets, sheet_at, is_text_kind}
 use Rattle.aw_var.specs.inside.Differences.{cell_on}
 use Rattle.aw_var.specs.inside.Unpacking.{with_coords}
-use Rattle.aw_var.proofs.FiniteMaps.{both_true, equal_of}
+use Rattle.aw_var.proofs.callers.FiniteMaps.{both_true, equal_of}
 use Rattle.aw_var.proofs.Numbers.{at_same}
 use Rattle.aw_var.proofs.Sheets.{cell_of-all}
 use Rattle.aw_var.proofs.Blank.{all_na}

@@ -17,7 +17,7 @@ use Rattle.aw_cell.specs.declared.cell.Kind.{Kind}
 use Rattle.aw_page.specs.Fitting.{is_na, is_of_kind}
 use Rattle.aw_var.specs.inside.NumberedMap.{set_of}
 use Rattle.aw_var.specs.inside.Sheets.{SheetCells, Sheets, numbered, all_numbered, number_pages, AreSheets, sheet_at, sheet_with, PutsCell}
-use Rattle.aw_var.proofs.FiniteMaps.{both_true, to_T, from_T, turned}
+use Rattle.aw_var.proofs.callers.FiniteMaps.{both_true, to_T, from_T, turned}
 use Rattle.aw_var.proofs.Numbers.{from_on, le_of}
 use Rattle.aw_var.proofs.Sheets.{EachSheet, EachSheet-AreSheets, all_numbered-from, is_sorted_of, lookup-find}
 use Rattle.aw_var.specs.inside.NumberedMap.{NumberedMap}

@@ -21,7 +21,7 @@ use Rattle.aw_page.specs.Fitting.{is_na, is_of_kind, is_plain, IsPlain, IsTextOr
 use Rattle.std.specs.declared.alloc.AllocError.{AllocError}
 use Rattle.aw_var.specs.inside.NumberedMap.{NumberedMap, set_of}
 use Rattle.aw_var.specs.inside.Sheets.{SheetCells, Sheets, all_numbered, is_text_kind, IsSheet, AreSheets, sheet_at, blank, unless_blank, sheet_with, PutsCell}
-use Rattle.aw_var.proofs.FiniteMaps.{both_true, and_true, equal_of, same_map, cell-set, IsMapBy-set}
+use Rattle.aw_var.proofs.callers.FiniteMaps.{both_true, and_true, equal_of, same_map, cell-set, IsMapBy-set}
 use Rattle.aw_var.proofs.Numbers.{at_same}
 use Rattle.aw_var.specs.inside.Differences.{cell_on}
 use Rattle.aw_var.proofs.Sheets.{cell_of-all, IsMapBy-all}

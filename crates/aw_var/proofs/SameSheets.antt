@@ -19,7 +19,7 @@ use Rattle.aw_cell.specs.SameCell.{same_cell-Decides}
 use Rattle.aw_var.specs.inside.NumberedMap.{NumberedMap, cell_of}
 use Rattle.aw_var.specs.inside.Sheets.{SheetCells, Sheets, all_numbered, sheet_at, AreSheets, IsSheet}
 use Rattle.aw_var.specs.inside.Differences.{cell_on}
-use Rattle.aw_var.proofs.FiniteMaps.{both_true, and_true, to_T}
+use Rattle.aw_var.proofs.callers.FiniteMaps.{both_true, and_true, to_T}
 use Rattle.aw_var.proofs.Sheets.{cell_of-all, is_sorted_of, lookup-find}
 use Rattle.aw_var.proofs.Blank.{all_na}
 use Rattle.aw_var.proofs.Puts.{shown}

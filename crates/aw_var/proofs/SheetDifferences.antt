@@ -18,7 +18,7 @@ use Rattle.aw_var.specs.inside.NumberedMap.{cell_of, difference_of}
 use Rattle.aw_var.specs.inside.Sheets.{SheetCells, Sheets, all_numbered, sheet_at}
 use Rattle.aw_var.specs.inside.Differences.{cell_on, changes_on}
 use Rattle.aw_var.specs.inside.Walks.{first_page, TakesSheet}
-use Rattle.aw_var.proofs.FiniteMaps.{both_true, and_true, either, equal_of, find-difference, is_sorted-difference, is_difference}
+use Rattle.aw_var.proofs.callers.FiniteMaps.{both_true, and_true, either, equal_of, find-difference, is_sorted-difference, is_difference}
 use Rattle.aw_var.proofs.Numbers.{at_same, lt_true, to_le, from_on, up_to, find-append, below-from, find-below, find-above, is_sorted-append}
 use Rattle.aw_var.proofs.Sheets.{EachSheet, sheet_at-absent, all_numbered-from, is_sorted-all, present-all, find-all, unwrap_or-found_on}
 use Rattle.aw_var.proofs.Unpacking.{list_all-filter}

@@ -19,7 +19,7 @@ use Rattle.aw_var.specs.CellMap.{IsMapBy}
 use Rattle.aw_var.specs.inside.NumberedMap.{cell_of}
 use Rattle.aw_var.specs.inside.Sheets.{SheetCells, Sheets, numbered, all_numbered, IsSheet, AreSheets, sheet_at}
 use Rattle.aw_var.specs.inside.Differences.{cell_on}
-use Rattle.aw_var.proofs.FiniteMaps.{both_true, and_true, kept, either, unwrap_or-kept, absent, equal_of}
+use Rattle.aw_var.proofs.callers.FiniteMaps.{both_true, and_true, kept, either, unwrap_or-kept, absent, equal_of}
 use Rattle.aw_var.proofs.Numbers.{at_same, at_more, to_le, list_all-append, from_on, up_to, find-append, below-from, find-below, is_sorted-append}
 
 pub numbered-from : (least from : ℕ) (cells : List Cell) → least ≤ from → from_on least (numbered from cells) ≡ true

@@ -24,7 +24,7 @@ use Rattle.aw_var.specs.inside.NumberedMap.{NumberedMap, cell_of, set_of, differ
 use Rattle.aw_var.specs.inside.Sheets.{number_pages}
 use Rattle.aw_var.specs.Pages.{page_of, page_count}
 use Rattle.aw_var.specs.inside.Unpacking.{unpacked, with_coords, AreNumbersOf}
-use Rattle.aw_var.proofs.FiniteMaps.{both_true, and_true}
+use Rattle.aw_var.proofs.callers.FiniteMaps.{both_true, and_true}
 
 pub power_pos : (slots : ℕ) → 0 < 65536 ^ slots
 power_pos zero = omega arith

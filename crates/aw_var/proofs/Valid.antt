@@ -15,7 +15,7 @@ use Rattle.aw_var.specs.Variable.{Contents, IsVariable, is_pair_of}
 use Rattle.aw_var.specs.inside.NumberedMap.{NumberedMap, IsNumberedMap}
 use Rattle.aw_var.specs.inside.Sheets.{Sheets, numbered, all_numbered, AreSheets}
 use Rattle.aw_var.specs.inside.Unpacking.{unpacked, with_coords, AreNumbersOf}
-use Rattle.aw_var.proofs.FiniteMaps.{both_true, and_true}
+use Rattle.aw_var.proofs.callers.FiniteMaps.{both_true, and_true}
 use Rattle.aw_var.proofs.Numbers.{list_all-append}
 use Rattle.aw_var.proofs.Sheets.{EachSheet, EachSheet-AreSheets, IsMapBy-all}
 use Rattle.aw_var.proofs.Puts.{shown}

@@ -143,6 +143,7 @@ impl Numbered {
         }
     }
 
+    /// Of which kind the cells are.
     pub fn kind(&self) -> Kind
         ensures { result ≡ self.now.kind }
     {

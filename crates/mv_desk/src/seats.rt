@@ -31,7 +31,7 @@ impl<M: Sequential> TicketTable<M> {
         self.table.shared.join_seat::<Joining>(seat, other);
     }
 
-    // The passes of all callers, where so far the first seat alone is there.
+    /// The passes of all callers, where so far the first seat alone is there.
     pub fn seat_all(&self, first: SeatAt<M>, passes: Vec<Pass<M>>, callers: u32) -> Vec<Pass<M>>
         requires callers { (1 ≤ callers) × (callers ≡ self.now.table.shared.key.most) }
         requires table { first.table_id ≡ self.now.table.shared.table_id }
@@ -53,7 +53,7 @@ impl<M: Sequential> TicketTable<M> {
         passes
     }
 
-    // All passes as one seat.
+    /// All passes as one seat.
     pub fn join_all(&self, mut passes: Vec<Pass<M>>) -> SeatAt<M>
         requires ready { All (λ pass. pass.table ≡ self.now.table.shared.table_id) passes.items }
         requires some { 0 < vec_len passes }
@@ -71,7 +71,7 @@ impl<M: Sequential> TicketTable<M> {
         whole
     }
 
-    // The machine of a table at which no other seat is left.
+    /// The machine of a table at which no other seat is left.
     pub fn end(self, whole: SeatAt<M>) -> M
         requires table { whole.table_id ≡ self.table.shared.table_id }
         requires idle { whole.me.0.turn ≡ false }

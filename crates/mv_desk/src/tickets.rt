@@ -23,6 +23,7 @@ pub struct TicketTable<M: Sequential> {
 }
 
 impl<M: Sequential> TicketTable<M> {
+    /// The table alone.
     pub fn into_table(self) -> Table<M, View<M, M::Entry, M::Reply>, Key<M>, Turns<M>, Global>
         ensures { result ≡ self.table }
     {

@@ -103,6 +103,8 @@ impl<M: Sequential> TicketTable<M> {
         self.table.shared.fetch_add::<PassOn<W>>(seat, SERVING, 1);
     }
 
+    /// Draws a ticket, waits for its turn, has the machine take the entry, and passes the turn on. The
+    /// answer is the place in the history, and the reply.
     pub fn take_turn<R: Wait>(
         &self,
         rt: &R,

@@ -15,7 +15,7 @@ use Rattle.aw_schema.specs.declared.fault.SchemaFault.TheVariants.{Repeat, TooMa
 use Rattle.aw_schema.specs.Checking as check
 use Rattle.aw_schema.specs.Checking.{repeated_name, too_many, wrong_kind, not_dimensions, repeated_dimension, wrong_objects, refusal}
 use Rattle.aw_schema.specs.Definitions.{has_name, object_of, is_dimension}
-use Rattle.aw_schema.proofs.Finding.{find-position}
+use Rattle.aw_schema.proofs.callers.Finding.{find-position}
 use Rattle.ses_report.specs.declared.refusal.Refusal.{Refusal}
 use Rattle.ses_report.specs.Refusals as report
 use Rattle.ses_step.specs.declared.definition.Definition.{Definition}

@@ -2,9 +2,9 @@
 use Rattle.std.specs.Cmp.Lexicographic.{nat_list_cmp_total}
 use Rattle.std.specs.FinMap.{slice_cmp-IsAntisymmetric, nat_cmp-IsAntisymmetric}
 use Rattle.aw_var.specs.Laws as maps
-use Rattle.aw_var.proofs.FiniteMaps.{difference-newer, find-difference, is_sorted-difference, difference-empty, IsMapBy-overwritten}
+use Rattle.aw_var.proofs.callers.FiniteMaps.{difference-newer, find-difference, is_sorted-difference, difference-empty, IsMapBy-overwritten}
 use Rattle.aw_body.specs.Laws.{DifferenceGivesNewer}
-use Rattle.aw_body.proofs.PatchLaws.{difference-gives-newer}
+use Rattle.aw_body.proofs.callers.PatchLaws.{difference-gives-newer}
 
 maps_newer : maps.DifferenceGivesNewer
 maps_newer older newer f g = difference-newer nat_list_cmp_total (slice_cmp-IsAntisymmetric nat_cmp-IsAntisymmetric) older newer f g

@@ -1,4 +1,4 @@
-use Rattle.aw_body.proofs.PatchLaws.{composed-does-both}
+use Rattle.aw_body.proofs.callers.PatchLaws.{composed-does-both}
 use Rattle.aw_body.proofs.laws.composed_does_both.Goals as goal
 
 pub returns : goal.returns

@@ -1,4 +1,4 @@
-use Rattle.aw_body.proofs.PatchLaws.{difference-gives-newer}
+use Rattle.aw_body.proofs.callers.PatchLaws.{difference-gives-newer}
 use Rattle.aw_body.proofs.laws.difference_gives_newer.Goals as goal
 
 pub returns : goal.returns

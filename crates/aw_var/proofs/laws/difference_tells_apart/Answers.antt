@@ -1,6 +1,6 @@
 use Rattle.std.specs.Cmp.Lexicographic.{nat_list_cmp_total}
 use Rattle.std.specs.FinMap.{slice_cmp-IsAntisymmetric, nat_cmp-IsAntisymmetric}
-use Rattle.aw_var.proofs.FiniteMaps.{find-difference, is_sorted-difference, difference-empty}
+use Rattle.aw_var.proofs.callers.FiniteMaps.{find-difference, is_sorted-difference, difference-empty}
 use Rattle.aw_var.proofs.laws.difference_tells_apart.Goals as goal
 
 pub returns : goal.returns

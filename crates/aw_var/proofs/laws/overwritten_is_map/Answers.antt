@@ -1,5 +1,5 @@
 use Rattle.std.specs.Cmp.Lexicographic.{nat_list_cmp_total}
-use Rattle.aw_var.proofs.FiniteMaps.{IsMapBy-overwritten}
+use Rattle.aw_var.proofs.callers.FiniteMaps.{IsMapBy-overwritten}
 use Rattle.aw_var.proofs.laws.overwritten_is_map.Goals as goal
 
 pub returns : goal.returns

@@ -1,6 +1,6 @@
 use Rattle.std.proofs.Common.{rules, ◌≡◌, ◌∙◌}
 use Rattle.aw_cell.specs.Names.{lowercase}
-use Rattle.aw_schema.proofs.Finding.{object_of-indexed}
+use Rattle.aw_schema.proofs.callers.Finding.{object_of-indexed}
 use Rattle.aw_schema.proofs.catalogue.Catalogue.find.Goals as goal
 
 pub returns-in-Some : goal.returns-in-Some
