@@ -9,6 +9,7 @@ use Rattle.aw_cell.specs.declared.cell.Kind.TheVariants.{Slot as SlotKind}
 use Rattle.aw_page.specs.Fitting.{is_of_kind}
 use Rattle.aw_schema.specs.declared.definition.DefKind.{DefKind}
 use Rattle.aw_schema.specs.declared.definition.DefKind.TheVariants.{Dimension, Relation, Valueset, Variable, Formula, Program, Aggmap}
+use Rattle.aw_schema.specs.Definitions.{is_kept}
 use Rattle.aw_var.specs.CellMap.{Cells}
 use Rattle.aw_var.specs.Variable.{Contents}
 use Rattle.aw_body.specs.declared.body.Body.{Body}
@@ -108,3 +109,13 @@ IsBodyOf-applied (Aggmap text) (Dim values) patch form = absurd form
 IsBodyOf-applied (Aggmap text) (Rel contents) patch form = absurd form
 IsBodyOf-applied (Aggmap text) (Set slots) patch form = absurd form
 IsBodyOf-applied (Aggmap text) (Var contents) patch form = absurd form
+
+-- what has a body is kept
+pub kept-kind : (kind : DefKind) (body : Body) → IsBodyOf kind body → is_kept kind ≡ true
+kept-kind Dimension body form = refl
+kept-kind (Relation target base) body form = refl
+kept-kind (Valueset dimension) body form = refl
+kept-kind (Variable kind dimensions) body form = refl
+kept-kind (Formula text) body form = absurd form
+kept-kind (Program text) body form = absurd form
+kept-kind (Aggmap text) body form = absurd form

@@ -6,7 +6,7 @@ use Rattle.std.specs.Cmp.Lexicographic.{pointwise}
 use Rattle.aw_cell.specs.declared.cell.Cell.{Cell}
 use Rattle.aw_cell.specs.declared.cell.Kind.{Kind}
 use Rattle.aw_dim.specs.SameValues.{same_values}
-use Rattle.aw_dim.specs.Values as dimension
+use Rattle.aw_dim.specs.DimensionState as dimension
 use Rattle.aw_page.specs.Fitting.{is_of_kind}
 use Rattle.aw_var.specs.CellMap.{Cells}
 use Rattle.aw_var.specs.CellPatch as cells
@@ -26,7 +26,7 @@ applied (Var contents) (CellPatch patch) = Var (record contents { cells = cells.
 applied body _ = body
 
 -- the newer values, or nothing where they are equal to the older ones
-abbrev pub some_values : dimension.Values → dimension.Values → Option BodyPatch
+abbrev pub some_values : dimension.DimensionState → dimension.DimensionState → Option BodyPatch
 some_values older newer = if same_values older newer then None else Some (Values newer)
 
 -- a patch of cells, or nothing where it has no key

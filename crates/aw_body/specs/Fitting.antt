@@ -7,7 +7,7 @@ use Rattle.aw_cell.specs.declared.cell.Cell.{Cell}
 use Rattle.aw_cell.specs.declared.cell.Cell.TheVariants.{Na, Num, Int, Text, Bool as Truth, Slot}
 use Rattle.aw_cell.specs.declared.cell.Kind.{Kind}
 use Rattle.aw_cell.specs.declared.cell.Kind.TheVariants.{Slot as SlotKind}
-use Rattle.aw_dim.specs.Values.{IsDimension}
+use Rattle.aw_dim.specs.DimensionState.{IsDimension}
 use Rattle.aw_schema.specs.declared.definition.DefKind.{DefKind}
 use Rattle.aw_schema.specs.declared.definition.DefKind.TheVariants.{Dimension, Relation, Valueset, Variable}
 use Rattle.aw_schema.specs.Checking.{first_repeated}

@@ -5,10 +5,10 @@ mod Numerals
 mod Padding
 mod Quotient
 mod RangeLaws
-mod Reading
 mod RoundedAlone
 mod Rounding
 mod TableLaws
 mod Utf8
 mod Worked
 pub mod callers
+mod NumeralSteps

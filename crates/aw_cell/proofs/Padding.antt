@@ -3,7 +3,7 @@ use Rattle.std.specs.Prelude.{ℕ, ◌≡◌, ◌≤◌, ◌-◌, ◌++◌, List
 use Rattle.std.proofs.Common.{◌∙◌, ap, sym, subst, arith}
 use Rattle.std.proofs.lemmas.List.{length-append, length-replicate, take_at, drop_at}
 use Rattle.aw_cell.specs.Text.{is_text}
-use Rattle.aw_cell.specs.TextInside.{IsPadded}
+use Rattle.aw_cell.specs.inside.PaddedText.{IsPadded}
 
 -- a text and then zeros up to 64 bytes
 pub IsPadded-append : (text rest : List ℕ) → length text ≤ 64 → IsTrue (is_text text) → rest ≡ replicate (64 - length text) 0 → IsPadded (text ++ rest) (length text)

@@ -8,8 +8,7 @@ pub mod Logic
 pub mod Names
 pub mod Number
 pub mod Numeral
-pub mod NumeralRead
 pub mod Rounding
 pub mod SameCell
 pub mod Text
-pub mod TextInside
+pub mod inside

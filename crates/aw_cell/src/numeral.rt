@@ -3,7 +3,7 @@ ghost use Rattle.std.specs.Option.{SomeIff};
 ghost use Rattle.std.specs.Str.Parse.{digits_value};
 ghost use Rattle.aw_cell.specs.Rounding.{signed};
 ghost use Rattle.aw_cell.specs.Numeral.{are_digits, SpellsParts, SpellsSize, Spells, IsNumeral, SpellsInRange, SpellsPastRange};
-ghost use Rattle.aw_cell.specs.NumeralRead.{ReadsCount, ReadsUnits, SpellsBehind, number_within};
+ghost use Rattle.aw_cell.specs.inside.NumeralSteps.{ReadsCount, ReadsUnits, SpellsBehind, number_within};
 
 use crate::number::Number;
 

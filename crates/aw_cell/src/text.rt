@@ -14,7 +14,7 @@ pub struct Text {
 
 impl Model for Text {
     ghost use Rattle.std.specs.Prelude.{List, ℕ, length, take};
-    ghost use Rattle.aw_cell.specs.TextInside.{IsPadded, padded, padded-text, length-text};
+    ghost use Rattle.aw_cell.specs.inside.PaddedText.{IsPadded, padded, padded-text, length-text};
 
     ghost Value = { List ℕ };
 

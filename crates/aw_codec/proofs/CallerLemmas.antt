@@ -15,7 +15,7 @@ use Rattle.aw_body.specs.declared.patch.BodyPatch.TheVariants.{Values, Slots, Ce
 use Rattle.aw_body.specs.Fitting.{is_recorded, is_recorded_change, are_changes, rise, fits}
 use Rattle.aw_codec.specs.declared.record.Decoded.{Decoded}
 use Rattle.aw_codec.specs.Laws.{SpellingOrFault}
-use Rattle.aw_codec.specs.Reading.{whole}
+use Rattle.aw_codec.specs.Parsing.{whole}
 use Rattle.aw_codec.specs.RecordFormat.{record_format}
 use Rattle.aw_codec.specs.Records.{IsRecord, spelled, are_recordable, is_recordable}
 use Rattle.aw_codec.proofs.DecodeLaws as decode

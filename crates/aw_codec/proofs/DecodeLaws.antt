@@ -8,7 +8,7 @@ use Rattle.aw_codec.specs.declared.record.BadRecord.{BadRecord}
 use Rattle.aw_codec.specs.declared.record.BadRecord.TheVariants.{At, NoMemory}
 use Rattle.aw_codec.specs.Decoding.{IsOrNoMemory}
 use Rattle.aw_codec.specs.Formats.{HasFault}
-use Rattle.aw_codec.specs.Reading.{Gives, whole}
+use Rattle.aw_codec.specs.Parsing.{Gives, whole}
 use Rattle.aw_codec.specs.RecordFormat.{record_format}
 use Rattle.aw_codec.specs.Records.{IsRecord, spelled}
 use Rattle.aw_codec.proofs.FormatLaws.{value_of_whole, whole_of_value, fault_of_whole, whole_of_fault}

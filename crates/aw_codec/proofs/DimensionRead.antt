@@ -4,9 +4,9 @@ use Rattle.std.specs.List.{concat}
 use Rattle.std.proofs.Common.{refl, sym, ap, subst, arith, inl, inr}
 use Rattle.std.proofs.lemmas.Bool.{cases_lt, cases_Bool, and_parts, leb-true}
 use Rattle.std.proofs.lemmas.List.{take-append-drop, length-take-le, length-drop, get_or_append_left, get_or-append_right}
-use Rattle.aw_dim.specs.Values.{Entry, IsDimension}
+use Rattle.aw_dim.specs.DimensionState.{Entry, IsDimension}
 use Rattle.aw_codec.specs.Formats.{Format, ended, field, many, After, HasEnded}
-use Rattle.aw_codec.specs.Reading.{reading}
+use Rattle.aw_codec.specs.Parsing.{reading}
 use Rattle.aw_codec.specs.RecordFormat.{value}
 use Rattle.aw_codec.specs.Spellings as spelling
 use Rattle.aw_codec.proofs.Parts.{AreBytes, AreBytes-front, AreBytes-back, Reads}

@@ -5,7 +5,7 @@ use Rattle.std.proofs.Common.{refl, sym, ap, ◌∙◌, append_assoc, add_assoc,
 use Rattle.std.proofs.lemmas.Bool.{and_parts, and_cases, leb-true, leb-false, le-leb, lt-leb, le-ltb, lt-ltb, cases_lt}
 use Rattle.std.proofs.lemmas.List.{take-append-drop, length-take-le, length-drop, length-append, drop-drop, take_at, drop_at}
 use Rattle.aw_codec.specs.Formats.{Format, ended, field, After, HasEnded, IsWhole, Refuses, HasFault}
-use Rattle.aw_codec.specs.Reading.{reading, onward, whole}
+use Rattle.aw_codec.specs.Parsing.{reading, onward, whole}
 
 -- what was found behind so many bytes
 abbrev pub shift : {A : Type 0} → ℕ → Result A ℕ → Result A ℕ

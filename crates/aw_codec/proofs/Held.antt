@@ -8,7 +8,7 @@ use Rattle.std.proofs.Math.Bool.{or-false}
 use Rattle.std.proofs.lemmas.Bool.{cases_eq, eq-eqb, ne_eqb}
 use Rattle.std.proofs.lemmas.List.{get_or-set_same, get_or-set_other, length-set}
 use Rattle.std.proofs.lemmas.List.Folds.{list_any-append}
-use Rattle.aw_dim.specs.Values.{Entry}
+use Rattle.aw_dim.specs.DimensionState.{Entry}
 use Rattle.aw_codec.specs.inside.Seen.{AreMarked, AreHeld, same_bytes, has_slot, is_slot}
 
 either : (same had : Bool) → cond same true had ≡ (had || same)

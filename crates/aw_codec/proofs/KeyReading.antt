@@ -5,7 +5,7 @@ use Rattle.std.proofs.Common.{subst, sym}
 use Rattle.std.proofs.lemmas.List.{take_more_set}
 use Rattle.aw_codec.specs.declared.record.BadRecord.{BadRecord}
 use Rattle.aw_codec.specs.Formats.{Format, number, many}
-use Rattle.aw_codec.specs.Reading.{reading, Fails}
+use Rattle.aw_codec.specs.Parsing.{reading, Fails}
 use Rattle.aw_codec.specs.RecordFormat.{least_slot}
 use Rattle.aw_codec.proofs.Readings.{next_part, no_part, all_parts}
 

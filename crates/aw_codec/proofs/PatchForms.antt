@@ -18,8 +18,8 @@ use Rattle.aw_lists.specs.Coord.{AreSlots}
 use Rattle.aw_cell.specs.declared.cell.Cell.{Cell}
 use Rattle.aw_cell.specs.declared.cell.Cell.TheVariants.{Na, Num, Int, Text, Bool, Slot}
 use Rattle.aw_cell.specs.Text.{is_text, is_text_byte}
-use Rattle.aw_dim.specs.Values.{Entry, IsDimension, IsValueName}
-use Rattle.aw_dim.specs.Values as dimension
+use Rattle.aw_dim.specs.DimensionState.{Entry, IsDimension, IsValueName}
+use Rattle.aw_dim.specs.DimensionState as dimension
 use Rattle.aw_schema.specs.Checking.{first_repeated}
 use Rattle.aw_var.specs.CellMap.{by_slots}
 use Rattle.aw_body.specs.declared.patch.BodyPatch.{BodyPatch}
@@ -191,7 +191,7 @@ dimension_of next entries most fit = record {
 abbrev AreBoth : ℕ → List Entry → Entry → Type 0
 AreBoth next before entry = ((entry.0 < next) × IsValueName entry.1) × (IsNew slot_in nat_eq Decides-eqb before entry × IsNew name_in bytes_eq bytes_eq-Decides before entry)
 
-values_fit : (values : dimension.Values) → IsDimension values → AreFitting (IsValue values.next) [] values.entries
+values_fit : (values : dimension.DimensionState) → IsDimension values → AreFitting (IsValue values.next) [] values.entries
 values_fit values is =
     let entries = values.entries in
     let next = values.next in
@@ -234,7 +234,7 @@ values_are bytes p reads =
     let here : bytes ≡ spelling.long a.v ++ spelling.long (length found.xs) ++ flat_map spelling.value found.xs = together a.same next from_count in
     rw is-2 (ap (λ (b : List ℕ). 76 ∷ b) here, dimension_of a.v found.xs most found.fit)
 
-values_whole : (all : dimension.Values) → IsDimension all → IsWhole values (spelling.long all.next ++ spelling.long (length all.entries) ++ flat_map spelling.value all.entries) (Values all)
+values_whole : (all : dimension.DimensionState) → IsDimension all → IsWhole values (spelling.long all.next ++ spelling.long (length all.entries) ++ flat_map spelling.value all.entries) (Values all)
 unfolding values
 values_whole all is =
     let p = Values all in

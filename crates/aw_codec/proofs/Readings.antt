@@ -4,7 +4,7 @@ use Rattle.std.proofs.Common.{refl, sym, ap, ◌∙◌, arith}
 use Rattle.aw_codec.specs.declared.record.BadRecord.{BadRecord}
 use Rattle.aw_codec.specs.declared.record.BadRecord.TheVariants.{At, NoMemory}
 use Rattle.aw_codec.specs.Formats.{Format, ended, field, ◌>>=◌, many}
-use Rattle.aw_codec.specs.Reading.{reading, onward, Fails}
+use Rattle.aw_codec.specs.Parsing.{reading, onward, Fails}
 
 onward-if : {A B : Type 0} (b : Bool) (x : Result B ℕ) (r : Result (A × ℕ) ℕ) (k : ℕ) (next : A → ℕ → Result B ℕ) → x ≡ onward r next
     → (if b then x else Err k) ≡ onward (if b then r else Err k) next

@@ -4,7 +4,7 @@ use Rattle.std.proofs.Common.{refl, sym, ap, subst, ◌∙◌, inl, inr}
 use Rattle.std.proofs.lemmas.List.{append-nil, append_cancel_left, take_at}
 use Rattle.aw_codec.specs.declared.record.Decoded.{Decoded}
 use Rattle.aw_codec.specs.Formats.{Format, ended, field, After, HasEnded, Refuses, IsWhole, HasFault}
-use Rattle.aw_codec.specs.Reading.{whole}
+use Rattle.aw_codec.specs.Parsing.{whole}
 use Rattle.aw_codec.specs.RecordFormat.{record_format}
 use Rattle.aw_codec.specs.Records.{IsRecord, spelled}
 use Rattle.aw_codec.specs.Laws.{SpellingsDiffer, SpellingOrFault, WholesAreRecords, IsSpelling, IsFaulty}

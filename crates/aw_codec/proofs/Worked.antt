@@ -8,7 +8,7 @@ use Rattle.aw_body.specs.declared.patch.BodyPatch.TheVariants.{Values, Slots, Ce
 use Rattle.aw_codec.specs.declared.record.Decoded.{Decoded}
 use Rattle.aw_codec.specs.declared.record.Decoded.TheVariants.{Definitions, Commit}
 use Rattle.aw_codec.specs.Formats.{number, bytes_of, many}
-use Rattle.aw_codec.specs.Reading.{whole}
+use Rattle.aw_codec.specs.Parsing.{whole}
 use Rattle.aw_codec.specs.RecordFormat.{shorts, long_text, relation, valueset, variable, texted, definition, units, integer, text, truth, slot, cell, key, keyed_cell, cells, value, values, other_slot, slots, patch, change, all_definitions, all_changes, record_format}
 
 read : List ℕ → Result Decoded ℕ

@@ -7,7 +7,7 @@ use Rattle.aw_cell.specs.declared.cell.Cell.{Cell}
 use Rattle.aw_cell.specs.declared.cell.Cell.TheVariants.{Na, Num, Int, Text, Bool, Slot}
 use Rattle.aw_cell.specs.Number.{IsInRange}
 use Rattle.aw_cell.specs.Text.{is_text}
-use Rattle.aw_dim.specs.Values.{IsDimension}
+use Rattle.aw_dim.specs.DimensionState.{IsDimension}
 use Rattle.aw_schema.specs.declared.definition.Def.{Def}
 use Rattle.aw_schema.specs.declared.definition.DefKind.{DefKind}
 use Rattle.aw_schema.specs.declared.definition.DefKind.TheVariants.{Dimension, Relation, Valueset, Variable, Formula, Program, Aggmap}

@@ -6,7 +6,7 @@ use Rattle.aw_cell.specs.declared.cell.Cell.{Cell}
 use Rattle.aw_cell.specs.declared.cell.Cell.TheVariants.{Na, Num, Int, Text, Bool, Slot}
 use Rattle.aw_cell.specs.declared.cell.Kind.{Kind}
 use Rattle.aw_cell.specs.declared.cell.Kind.TheVariants.{Num as NumberKind, Int as IntegerKind, Text as TextKind, Bool as BooleanKind, Slot as SlotKind}
-use Rattle.aw_dim.specs.Values.{Entry}
+use Rattle.aw_dim.specs.DimensionState.{Entry}
 use Rattle.aw_schema.specs.declared.definition.Def.{Def}
 use Rattle.aw_schema.specs.declared.definition.DefKind.{DefKind}
 use Rattle.aw_schema.specs.declared.definition.DefKind.TheVariants.{Dimension, Relation, Valueset, Variable, Formula, Program, Aggmap}

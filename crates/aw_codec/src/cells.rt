@@ -1,6 +1,6 @@
 //! Cells of a record.
 ghost use Rattle.std.specs.Prelude.{◌≡◌};
-ghost use Rattle.aw_codec.specs.Reading.{Gives, reading};
+ghost use Rattle.aw_codec.specs.Parsing.{Gives, reading};
 ghost use Rattle.aw_codec.specs.RecordFormat as format;
 
 use crate::fields::{byte_at, field_at, text_at, u16_at};

@@ -2,7 +2,7 @@
 ghost use Rattle.std.specs.Prelude.{◌≡◌, [], ◌+◌};
 ghost use Rattle.std.specs.Option.{option_map_or};
 ghost use Rattle.aw_codec.specs.Formats.{many};
-ghost use Rattle.aw_codec.specs.Reading.{Gives, reading};
+ghost use Rattle.aw_codec.specs.Parsing.{Gives, reading};
 ghost use Rattle.aw_codec.specs.RecordFormat as format;
 
 use crate::fields::{letter_at, u16_at};

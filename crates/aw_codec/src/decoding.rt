@@ -2,7 +2,7 @@ ghost use Rattle.std.specs.Prelude.{◌≡◌, [], ℕ, IfOk, Ok, Err};
 ghost use Rattle.aw_codec.specs.declared.record.Decoded.{Decoded};
 ghost use Rattle.aw_codec.specs.Decoding.{IsOrNoMemory};
 ghost use Rattle.aw_codec.specs.Formats.{HasFault, many};
-ghost use Rattle.aw_codec.specs.Reading.{Gives, reading, whole};
+ghost use Rattle.aw_codec.specs.Parsing.{Gives, reading, whole};
 ghost use Rattle.aw_codec.specs.RecordFormat as format;
 ghost use Rattle.aw_codec.specs.Records.{IsRecord, spelled};
 

@@ -2,7 +2,7 @@
 ghost use Rattle.std.specs.Prelude.{◌≡◌, []};
 ghost use Rattle.aw_schema.specs.declared.definition.DefKind.TheVariants.{Formula, Program, Aggmap};
 ghost use Rattle.aw_codec.specs.Formats.{many};
-ghost use Rattle.aw_codec.specs.Reading.{Gives, reading};
+ghost use Rattle.aw_codec.specs.Parsing.{Gives, reading};
 ghost use Rattle.aw_codec.specs.RecordFormat as format;
 
 use crate::fields::{byte_at, bytes_at, name_at, u16_at, u32_at};

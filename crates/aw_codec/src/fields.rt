@@ -4,7 +4,7 @@ ghost use Rattle.std.specs.Int.{w8, w16, w32, is_in_range};
 ghost use Rattle.aw_cell.specs.Names.{is_name};
 ghost use Rattle.aw_cell.specs.Text.{is_text};
 ghost use Rattle.aw_codec.specs.Formats.{number, bytes_of};
-ghost use Rattle.aw_codec.specs.Reading.{Gives, reading};
+ghost use Rattle.aw_codec.specs.Parsing.{Gives, reading};
 ghost use Rattle.aw_codec.specs.RecordFormat as format;
 
 use crate::marks::{CELLS_PATCH, SLOTS_PATCH, VALUES_PATCH};

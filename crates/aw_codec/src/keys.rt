@@ -3,7 +3,7 @@ ghost use Rattle.std.specs.Prelude.{◌≡◌, ◌≤◌, [], nat_le, take, slic
 ghost use Rattle.std.specs.Option.{option_copied};
 ghost use Rattle.std.specs.Int.{w16};
 ghost use Rattle.aw_codec.specs.Formats.{number, many};
-ghost use Rattle.aw_codec.specs.Reading.{Gives, reading};
+ghost use Rattle.aw_codec.specs.Parsing.{Gives, reading};
 ghost use Rattle.aw_codec.specs.RecordFormat as format;
 
 use crate::fields::u16_at;

@@ -1,7 +1,7 @@
 //! Slots of a valueset.
 ghost use Rattle.std.specs.Prelude.{◌≡◌, ◌++◌, ◌∷◌, [], length, false, IfOk, OnOk};
 ghost use Rattle.aw_codec.specs.Formats.{many};
-ghost use Rattle.aw_codec.specs.Reading.{Gives, reading};
+ghost use Rattle.aw_codec.specs.Parsing.{Gives, reading};
 ghost use Rattle.aw_codec.specs.RecordFormat as format;
 ghost use Rattle.aw_codec.specs.inside.Seen.{AreMarked, is_slot};
 

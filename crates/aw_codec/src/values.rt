@@ -5,9 +5,9 @@ ghost use Rattle.std.specs.HashSet.{contains};
 ghost use Rattle.std.specs.Int.{w16};
 ghost use Rattle.std.specs.Str.{bytes_eq};
 ghost use Rattle.aw_cell.specs.Text.{is_text};
-ghost use Rattle.aw_dim.specs.Values.{IsDimension};
+ghost use Rattle.aw_dim.specs.DimensionState.{IsDimension};
 ghost use Rattle.aw_codec.specs.Formats.{number, bytes_of, many};
-ghost use Rattle.aw_codec.specs.Reading.{Gives, reading};
+ghost use Rattle.aw_codec.specs.Parsing.{Gives, reading};
 ghost use Rattle.aw_codec.specs.RecordFormat as format;
 ghost use Rattle.aw_codec.specs.inside.Seen.{AreMarked, AreHeld, has_slot, same_bytes};
 

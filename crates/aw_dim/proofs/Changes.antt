@@ -2,7 +2,7 @@
 use Rattle.std.proofs.Common.{ℕ, zero, suc, ◌≡◌, ◌≢◌, ◌+◌, ◌<◌, ◌≤◌, ◌⊎◌, List, [], ◌∷◌, ◌++◌, length, slice_get, slice_set, Some, insert, remove, refl, sym, ◌∙◌, ap, arith, inl, inr}
 use Rattle.std.proofs.lemmas.Bool.{cases_order}
 use Rattle.std.proofs.lemmas.Option.{slice_get_within}
-use Rattle.aw_dim.specs.Values.{Entry, IsValueName}
+use Rattle.aw_dim.specs.DimensionState.{Entry, IsValueName}
 use Rattle.aw_dim.specs.inside.Index.{Has, HasBut, IsAt, AreBelow, SlotsFit, ArePlaced, IsNameIndex, IsIndexed}
 use Rattle.aw_dim.proofs.Editing.{insert_below, insert_at, remove_below, set_at, set_other, one_element, shifted, drawn, kept, left_in}
 use Rattle.aw_dim.proofs.NameIndexes.{index_same, one_slot}

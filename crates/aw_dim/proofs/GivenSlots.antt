@@ -3,7 +3,7 @@ use Rattle.std.proofs.Common.{ℕ, ◌≡◌, ◌<◌, ◌≤◌, ◌+◌, List,
 use Rattle.std.specs.List.{All, AllPairs}
 use Rattle.std.proofs.lemmas.List.Elements.{All-cons}
 use Rattle.std.proofs.lemmas.List.Kept.{AllPairs-cons}
-use Rattle.aw_dim.specs.Values.{Values}
+use Rattle.aw_dim.specs.DimensionState.{DimensionState}
 use Rattle.aw_dim.specs.Edits.{added, removed, renamed, moved}
 use Rattle.aw_dim.specs.Calls.{Call, given, after, NeverAgain, SlotsAreNeverGivenAgain}
 use Rattle.aw_dim.specs.Calls.Call.{add, remove, rename, move_to, nothing}

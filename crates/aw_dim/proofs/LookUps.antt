@@ -1,10 +1,9 @@
 -- Which value the look-ups find.
-use Rattle.std.proofs.Common.{ℕ, zero, suc, Bool, true, false, cond, ◌≡◌, ◌≢◌, ◌+◌, ◌<◌, ◌==◌, List, [], ◌∷◌, length, slice_get, Some, None, option_map, is_some, find, bytes_eq, refl, sym, ◌∙◌, ap, arith}
+use Rattle.std.proofs.Common.{ℕ, zero, suc, Bool, true, false, cond, ◌≡◌, ◌≢◌, ◌+◌, ◌<◌, ◌==◌, List, [], ◌∷◌, length, slice_get, Some, None, option_map, is_some, find, bytes_eq, refl, sym, ◌∙◌, ap, arith, Option}
 use Rattle.std.specs.List.{position_from}
 use Rattle.std.proofs.lemmas.Slice.Eq.{bytes_eq-Decides}
 use Rattle.std.proofs.lemmas.Bool.Decides.{Decides-eqb}
-use Rattle.aw_dim.specs.Values.{Entry, Values, slot_of, name_of, position_of}
-use Rattle.std.proofs.Common.{Option}
+use Rattle.aw_dim.specs.DimensionState.{Entry, DimensionState, slot_of, name_of, position_of}
 use Rattle.std.proofs.lemmas.Option.{slice_get_within}
 use Rattle.aw_dim.specs.inside.Index.{Has, SlotsFit, ArePlaced, IsNameIndex, IsIndexed, indexed_place, name_by, place_at, same_place, indexed_name, listed_slot}
 use Rattle.aw_dim.proofs.Placing.{fit_from_placed, name_of_placed}
@@ -62,7 +61,7 @@ bytes_false one other ne = by (bytes_eq one other) refl
     by true e = absurd (ne ((bytes_eq-Decides one other).0 e))
     by false e = refl
 
-module _ (values : Values) (room : ℕ) (fit : SlotsFit values.entries room) (slot : ℕ) where
+module _ (values : DimensionState) (room : ℕ) (fit : SlotsFit values.entries room) (slot : ℕ) where
   at_slot : (place : ℕ) (name : List ℕ) → slice_get values.entries place ≡ Some (slot, name) → PassesFirst (λ (entry : Entry). entry.0 == slot) values.entries place (slot, name)
   at_slot place name value = record {
     value = value;
@@ -111,7 +110,7 @@ position_lost test (x ∷ xs) from e = by (test x) refl (position_lost test xs (
     by true same more h = absurd cc
     by false same more h = rw same (more h)
 
-pub name-lost : (values : Values) (slot : ℕ) → position_of values slot ≡ None → name_of values slot ≡ None
+pub name-lost : (values : DimensionState) (slot : ℕ) → position_of values slot ≡ None → name_of values slot ≡ None
 name-lost values slot e = ap (option_map (λ (entry : Entry). entry.1)) (position_lost (λ entry. entry.0 == slot) values.entries 0 e)
 
 find_passes : (test : Entry → Bool) (xs : List Entry) (first : Entry) → find test xs ≡ Some first → test first ≡ true
@@ -123,12 +122,12 @@ find_passes test (x ∷ xs) first h = by (test x) refl (find_passes test xs firs
     by false same more g = more g
 
 -- the value with a slot stands at its position
-pub record StandsAt (values : Values) (slot place : ℕ) : Type 0 where
+pub record StandsAt (values : DimensionState) (slot place : ℕ) : Type 0 where
   pub name : List ℕ
   pub value : slice_get values.entries place ≡ Some (slot, name)
   pub named : name_of values slot ≡ Some name
 
-pub stands-at : (values : Values) (slot place : ℕ) → position_of values slot ≡ Some place → StandsAt values slot place
+pub stands-at : (values : DimensionState) (slot place : ℕ) → position_of values slot ≡ Some place → StandsAt values slot place
 stands-at values slot place e =
     let found = position_found (λ entry. entry.0 == slot) values.entries 0 place e in
     let here : found.at ≡ place = omega (arith, found.counted) in
@@ -136,14 +135,14 @@ stands-at values slot place e =
     let same : found.first ≡ (slot, found.first.1) = λ i. ((Decides-eqb found.first.0 slot).0 passes i, found.first.1) in
     record { name = found.first.1; value = rw here at (found.value ∙ ap Some same); named = ap (option_map (λ (entry : Entry). entry.1)) found.is }
 
-pub name-position : (values : Values) (slot : ℕ) → name_by values.entries (position_of values slot) ≡ name_of values slot
+pub name-position : (values : DimensionState) (slot : ℕ) → name_by values.entries (position_of values slot) ≡ name_of values slot
 name-position values slot = by (position_of values slot) refl
   where
     by : (place : Option ℕ) → position_of values slot ≡ place → name_by values.entries place ≡ name_of values slot
     by None none = sym (name-lost values slot none)
     by (Some place) found = let stands = stands-at values slot place found in ap (option_map (λ (entry : Entry). entry.1)) stands.value ∙ sym stands.named
 
-pub is_some-position : (values : Values) (slot : ℕ) → is_some (position_of values slot) ≡ is_some (name_of values slot)
+pub is_some-position : (values : DimensionState) (slot : ℕ) → is_some (position_of values slot) ≡ is_some (name_of values slot)
 is_some-position values slot = by (position_of values slot) refl
   where
     by : (place : Option ℕ) → position_of values slot ≡ place → is_some place ≡ is_some (name_of values slot)
@@ -151,7 +150,7 @@ is_some-position values slot = by (position_of values slot) refl
     by (Some place) found = ap is_some (sym (stands-at values slot place found).named)
 
 -- the place that the index gives
-pub position-indexed : (values : Values) (places : List ℕ) → ArePlaced values.entries places (length values.entries) → (slot : ℕ) → indexed_place values.entries places slot ≡ position_of values slot
+pub position-indexed : (values : DimensionState) (places : List ℕ) → ArePlaced values.entries places (length values.entries) → (slot : ℕ) → indexed_place values.entries places slot ≡ position_of values slot
 position-indexed values places placed slot = by_place (slice_get places slot) refl
   where
     fit : SlotsFit values.entries (length places)
@@ -185,7 +184,7 @@ position-indexed values places placed slot = by_place (slice_get places slot) re
         cc))
     by_place (Some place) at_slot = by_entry place at_slot (slice_get values.entries place) refl
 
-module _ (values : Values) (room : ℕ) (fit : SlotsFit values.entries room) (slots : List ℕ) (index : IsNameIndex (Has values.entries) slots) (name : List ℕ) where
+module _ (values : DimensionState) (room : ℕ) (fit : SlotsFit values.entries room) (slots : List ℕ) (index : IsNameIndex (Has values.entries) slots) (name : List ℕ) where
   pub slot_of-some : (slot : ℕ) → Has values.entries slot name → slot_of values name ≡ Some slot
   slot_of-some slot has = ap (option_map (λ (entry : Entry). entry.0)) (find_first (λ entry. bytes_eq entry.1 name) values.entries has.place (slot, name) (record {
     value = has.value;
@@ -203,7 +202,7 @@ module _ (values : Values) (room : ℕ) (fit : SlotsFit values.entries room) (sl
   }))
 
 -- the slot that the index gives at a name's rank
-pub slot-listed : (values : Values) (places slots : List ℕ) → ArePlaced values.entries places (length values.entries) → IsNameIndex (Has values.entries) slots → (name : List ℕ) (rank : ℕ) → RanksBy values.entries places slots name rank → listed_slot values.entries places name (slice_get slots rank) ≡ slot_of values name
+pub slot-listed : (values : DimensionState) (places slots : List ℕ) → ArePlaced values.entries places (length values.entries) → IsNameIndex (Has values.entries) slots → (name : List ℕ) (rank : ℕ) → RanksBy values.entries places slots name rank → listed_slot values.entries places name (slice_get slots rank) ≡ slot_of values name
 slot-listed values places slots placed index name rank ranks = by_slot (slice_get slots rank) refl
   where
     fit : SlotsFit values.entries (length places)
@@ -232,7 +231,7 @@ slot-listed values places slots placed index name rank ranks = by_slot (slice_ge
     by_slot (Some slot) at_slot = by_name slot at_slot (bytes_eq (indexed_name values.entries places slot) name) refl
 
 -- a name that isn't found is no value's
-pub name-unused : (values : Values) (places slots : List ℕ) → IsIndexed values.entries places slots → (name : List ℕ) → slot_of values name ≡ None → (slot : ℕ) → Has values.entries slot name → ⊥
+pub name-unused : (values : DimensionState) (places slots : List ℕ) → IsIndexed values.entries places slots → (name : List ℕ) → slot_of values name ≡ None → (slot : ℕ) → Has values.entries slot name → ⊥
 name-unused values places slots stands name none slot has =
     let e : None ≡ Some slot = sym none ∙ slot_of-some values (length places) (fit_from_placed values.entries places stands.placed) slots stands.indexed name slot has in
     cc

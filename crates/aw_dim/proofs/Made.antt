@@ -9,7 +9,7 @@ use Rattle.std.proofs.lemmas.Map.Keys.{IsDistinct-IsPermutation}
 use Rattle.std.proofs.lemmas.Map.Made.{IsDistinct-from_AllPairs, AllPairs-from_IsDistinct}
 use Rattle.std.proofs.lemmas.Option.{slice_get_within, slice_get-get_or, slice_get-map, get_or_from_slice_get}
 use Rattle.std.specs.Cmp.{nat_eq_equiv}
-use Rattle.aw_dim.specs.Values.{Entry, Values, IsDimension, IsValueName}
+use Rattle.aw_dim.specs.DimensionState.{Entry, DimensionState, IsDimension, IsValueName}
 use Rattle.aw_dim.specs.inside.Index.{Has, AreBelow, SlotsFit, ArePlaced, IsNameIndex, IsIndexed, indexed_name, precedes}
 use Rattle.aw_dim.specs.inside.Making.{AreListed, RiseBy}
 use Rattle.aw_dim.proofs.NameOrder.{precedes-trans, precedes-total}
@@ -20,7 +20,7 @@ entry_at : (entries : List Entry) (k : ℕ) (entry d : Entry) → slice_get entr
 entry_at entries k entry d h = get_or_from_slice_get entries k entry d h
 
 -- the slots of a dimension's value fit
-pub fit_from_valid : (values : Values) → IsDimension values → SlotsFit values.entries values.next
+pub fit_from_valid : (values : DimensionState) → IsDimension values → SlotsFit values.entries values.next
 fit_from_valid values is = record {
   apart = λ one other slot name renamed h g.
       elim (cases_order one other) [
@@ -37,7 +37,7 @@ fit_from_valid values is = record {
 }
 
 -- and so do not its names stand twice
-pub one_place : (values : Values) → IsDimension values → (one other slot held : ℕ) (name : List ℕ) → slice_get values.entries one ≡ Some (slot, name) → slice_get values.entries other ≡ Some (held, name) → one ≡ other
+pub one_place : (values : DimensionState) → IsDimension values → (one other slot held : ℕ) (name : List ℕ) → slice_get values.entries one ≡ Some (slot, name) → slice_get values.entries other ≡ Some (held, name) → one ≡ other
 one_place values is one other slot held name h g =
     elim (cases_order one other) [
       | inl e ↦ e
@@ -47,7 +47,7 @@ one_place values is one other slot held name h g =
       ]
     ]
 
-pub few_valid : (values : Values) → IsDimension values → length values.entries ≤ values.next
+pub few_valid : (values : DimensionState) → IsDimension values → length values.entries ≤ values.next
 few_valid values is = few values.entries values.next (fit_from_valid values is)
 
 pub below_from_all : (entries : List Entry) (room : ℕ) → All (λ entry. entry.0 < room) entries → AreBelow entries room

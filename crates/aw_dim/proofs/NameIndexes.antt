@@ -3,7 +3,7 @@ use Rattle.std.proofs.Common.{ℕ, Bool, true, false, ◌≡◌, ◌≢◌, ◌+
 use Rattle.std.specs.List.Sorted.{IsPartitionedBy, IsPartitionPoint}
 use Rattle.std.proofs.lemmas.Bool.{cases_lt, cases_order}
 use Rattle.std.proofs.lemmas.Option.{slice_get_within, slice_get-get_or, get_or_from_slice_get}
-use Rattle.aw_dim.specs.Values.{Entry}
+use Rattle.aw_dim.specs.DimensionState.{Entry}
 use Rattle.aw_dim.specs.inside.Index.{Has, HasBut, ArePlaced, IsNameIndex, indexed_name, precedes}
 use Rattle.aw_dim.proofs.Editing.{insert_at, one_element, Shifted, Drawn, shifted, drawn, kept, left_in, shifted_order}
 use Rattle.aw_dim.proofs.NameOrder.{precedes-trans, precedes-irrefl, precedes-total, differ}

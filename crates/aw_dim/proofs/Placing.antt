@@ -2,7 +2,7 @@
 use Rattle.std.proofs.Common.{ℕ, suc, ◌≡◌, ◌≢◌, ◌+◌, ◌<◌, ◌≤◌, ◌⊎◌, List, [], ◌∷◌, ◌++◌, length, slice_get, slice_set, Some, None, insert, remove, refl, sym, ◌∙◌, ap, arith, inl, inr, ⊎_elim}
 use Rattle.std.proofs.lemmas.Bool.{cases_lt, cases_order}
 use Rattle.std.proofs.lemmas.Option.{slice_get_within}
-use Rattle.aw_dim.specs.Values.{Entry}
+use Rattle.aw_dim.specs.DimensionState.{Entry}
 use Rattle.aw_dim.specs.inside.Index.{Has, HasBut, SlotsFit, ArePlaced, indexed_name, name_at, name_in}
 use Rattle.aw_dim.proofs.Editing.{insert_below, insert_at, remove_below, set_at, set_other, append_left, one_element, Shifted, Drawn, shifted, drawn, kept, left_in, shifted_same}
 

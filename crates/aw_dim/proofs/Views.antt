@@ -5,7 +5,7 @@ use Rattle.std.proofs.lemmas.Bool.Decides.{Decides-eqb}
 use Rattle.std.proofs.lemmas.List.{take_min, drop_min}
 use Rattle.std.proofs.lemmas.List.Edits.{length-remove}
 use Rattle.std.proofs.lemmas.Option.{slice_get_within}
-use Rattle.aw_dim.specs.Values.{Entry, Values}
+use Rattle.aw_dim.specs.DimensionState.{Entry, DimensionState}
 use Rattle.aw_dim.specs.Edits.{others, removed, renamed_entry, renamed, moved}
 use Rattle.aw_dim.specs.inside.Index.{SlotsFit, IsAt}
 use Rattle.aw_dim.proofs.LookUps.{test_false}
@@ -73,7 +73,7 @@ module _ (slot : ℕ) (name : List ℕ) where
       rw (first_fails entry entries slot at only) (ap (λ (rest : List Entry). entry ∷ rest) (renamed_is new entries at (rest_alone entry entries slot at only) here))
 
   -- the value at a place moved
-  pub moved_is : (values : Values) (from place : ℕ) → Alone values.entries slot from → slice_get values.entries from ≡ Some (slot, name) → insert (remove values.entries from) (min place (length values.entries - 1)) (slot, name) ≡ (moved values slot place).entries
+  pub moved_is : (values : DimensionState) (from place : ℕ) → Alone values.entries slot from → slice_get values.entries from ≡ Some (slot, name) → insert (remove values.entries from) (min place (length values.entries - 1)) (slot, name) ≡ (moved values slot place).entries
   moved_is values from place only here =
       let within = slice_get_within values.entries from (slot, name) here in
       let n = length-remove values.entries from within in
@@ -85,10 +85,10 @@ module _ (slot : ℕ) (name : List ℕ) where
       capped place rest value =
           rw (take_min place rest, drop_min place rest) (sym (append_assoc (take place rest) (value ∷ []) (drop place rest)))
 
-pub at_view : (values same : Values) (place slot : ℕ) → values ≡ same → IsAt same.entries place slot → IsAt values.entries place slot
-at_view values same place slot e here = subst (λ (view : Values). IsAt view.entries place slot) (sym e) here
+pub at_view : (values same : DimensionState) (place slot : ℕ) → values ≡ same → IsAt same.entries place slot → IsAt values.entries place slot
+at_view values same place slot e here = subst (λ (view : DimensionState). IsAt view.entries place slot) (sym e) here
 
-module _ (values : Values) (room slot place : ℕ) (fit : SlotsFit values.entries room) (here : IsAt values.entries place slot) where
+module _ (values : DimensionState) (room slot place : ℕ) (fit : SlotsFit values.entries room) (here : IsAt values.entries place slot) where
   only : Alone values.entries slot place
   only = alone values.entries room place slot here.name fit here.value
 

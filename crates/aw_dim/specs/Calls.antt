@@ -1,7 +1,7 @@
 -- Rows of calls on a dimension: no slot is given twice.
 use Rattle.std.specs.Prelude.{ℕ, ◌≡◌, ◌<◌, ◌≤◌, ◌&&◌, List, [], ◌∷◌, ◌++◌, if◌then◌else◌, is_some, nat_lt}
 use Rattle.std.specs.List.{All, AllPairs}
-use Rattle.aw_dim.specs.Values.{Values, slot_of, name_of}
+use Rattle.aw_dim.specs.DimensionState.{DimensionState, slot_of, name_of}
 use Rattle.aw_dim.specs.Edits.{added, removed, renamed, moved}
 
 -- a call that may change a dimension
@@ -14,7 +14,7 @@ pub data Call : Type 0 where
   nothing : Call
 
 -- what a call leaves
-abbrev pub after : Values → Call → Values
+abbrev pub after : DimensionState → Call → DimensionState
 after values (add name place) = added values name place
 after values (remove slot) = removed values slot
 after values (rename slot name) = renamed values slot name
@@ -22,7 +22,7 @@ after values (move_to slot place) = moved values slot place
 after values nothing = values
 
 -- the slots that a call gives
-abbrev pub given_by : Values → Call → List ℕ
+abbrev pub given_by : DimensionState → Call → List ℕ
 given_by values (add name place) = values.next ∷ []
 given_by values (remove slot) = []
 given_by values (rename slot name) = []
@@ -30,15 +30,15 @@ given_by values (move_to slot place) = []
 given_by values nothing = []
 
 -- the slots that a row of calls gives
-abbrev pub given : Values → List Call → List ℕ
+abbrev pub given : DimensionState → List Call → List ℕ
 given values [] = []
 given values (call ∷ calls) = given_by values call ++ given (after values call) calls
 
 -- whatever the calls, a slot that is given is none that was given before: each is at least the next
 -- slot at the start, and they rise
-pub record NeverAgain (values : Values) (calls : List Call) : Type 0 where
+pub record NeverAgain (values : DimensionState) (calls : List Call) : Type 0 where
   pub are_new : All (λ slot. values.next ≤ slot) (given values calls)
   pub rise : AllPairs (λ one other. one < other) (given values calls)
 
 abbrev pub SlotsAreNeverGivenAgain : Type 0
-SlotsAreNeverGivenAgain = (values : Values) (calls : List Call) → NeverAgain values calls
+SlotsAreNeverGivenAgain = (values : DimensionState) (calls : List Call) → NeverAgain values calls

@@ -1,5 +1,5 @@
 pub mod Calls
 pub mod Edits
 pub mod SameValues
-pub mod Values
 pub mod inside
+pub mod DimensionState

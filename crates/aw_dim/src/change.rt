@@ -1,7 +1,7 @@
 //! The changes of a dimension, over its parts.
 ghost use Rattle.std.specs.Prelude.{ℕ, List, ◌≡◌, ◌≢◌, ◌+◌, ◌-◌, ◌<◌, ◌≤◌, [], length, vec_len, slice_get, slice_set, Some, IfOk, OnOk, OnErr};
 ghost use Rattle.std.specs.List.{insert, remove};
-ghost use Rattle.aw_dim.specs.Values.{Entry};
+ghost use Rattle.aw_dim.specs.DimensionState.{Entry};
 ghost use Rattle.aw_dim.specs.inside.Index.{ArePlaced, Has, IsAt, IsIndexed};
 
 use crate::index::{enlist, mark_places, unlist};

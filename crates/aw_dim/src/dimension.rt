@@ -1,6 +1,6 @@
 ghost use Rattle.std.specs.Prelude.{◌≡◌, ◌≢◌, ◌↔◌, ◌≤◌, [], length, IsSome, is_some, IsOk, IfOk, IfErr, IfSome, OnOk, OnErr, None, Some, Err, slice_get};
 ghost use Rattle.std.specs.Option.{option_map, ForSome};
-ghost use Rattle.aw_dim.specs.Values.{Values, IsDimension, slot_of, name_of, position_of, HasName, HasSlot};
+ghost use Rattle.aw_dim.specs.DimensionState.{DimensionState, IsDimension, slot_of, name_of, position_of, HasName, HasSlot};
 ghost use Rattle.aw_dim.specs.Edits.{empty, added, removed, renamed, moved};
 ghost use Rattle.aw_dim.specs.inside.Index.{IsAt};
 
@@ -28,9 +28,9 @@ pub struct Dimension {
 
 impl Model for Dimension {
     ghost use Rattle.std.specs.Prelude.{length};
-    ghost use Rattle.aw_dim.specs.Values.{Values};
+    ghost use Rattle.aw_dim.specs.DimensionState.{DimensionState};
 
-    ghost Value = { Values };
+    ghost Value = { DimensionState };
 
     ghost use Rattle.aw_dim.specs.inside.Index.{IsIndexed};
 

@@ -4,7 +4,7 @@ ghost use Rattle.std.specs.Cmp.Lexicographic.{slice_cmp};
 ghost use Rattle.std.specs.List.{All};
 ghost use Rattle.std.specs.List.Sorted.{IsPermutation, IsSortedBy};
 ghost use Rattle.std.specs.Ordering.{nat_cmp};
-ghost use Rattle.aw_dim.specs.Values.{IsValueName};
+ghost use Rattle.aw_dim.specs.DimensionState.{IsValueName};
 ghost use Rattle.aw_dim.specs.inside.Index.{AreBelow, ArePlaced, indexed_name, precedes};
 ghost use Rattle.aw_dim.specs.inside.Making.{AreListed, RiseBy};
 

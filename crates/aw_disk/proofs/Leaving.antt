@@ -11,7 +11,7 @@ use Rattle.aw_disk.specs.Covered.{is_write, reaches, writes_since, synced_count,
 use Rattle.aw_disk.specs.Images.{overwritten, TornFrom}
 use Rattle.aw_disk.specs.MemDisk.{content_after, LeftAfter, LeftAfter-content}
 use Rattle.aw_disk.proofs.Picking.{reaches-outside, or-false_parts, covered-parts}
-use Rattle.aw_disk.proofs.Replaying.{LeftAfter-append, list_all-writes_since}
+use Rattle.aw_disk.proofs.PickedImages.{LeftAfter-append, list_all-writes_since}
 use Rattle.aw_disk.proofs.Steps.{content_after-sync, LeftAfter-sync}
 
 -- the steps up to the last sync are none, or end in it

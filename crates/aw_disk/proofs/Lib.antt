@@ -1,4 +1,4 @@
 pub mod Leaving
 pub mod Picking
-pub mod Replaying
 pub mod Steps
+pub mod PickedImages

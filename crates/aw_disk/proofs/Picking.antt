@@ -11,13 +11,13 @@ use Rattle.aw_disk.specs.declared.step.Step.{Step}
 use Rattle.aw_disk.specs.declared.step.Step.TheVariants.{Write, Sync}
 use Rattle.aw_disk.specs.declared.step.Pick.{Pick}
 use Rattle.aw_disk.specs.declared.step.Pick.TheVariants.{Kept, Old, Fill}
-use Rattle.aw_disk.specs.Held.{all_begin_inside}
+use Rattle.aw_disk.specs.inside.MemDiskSteps.{all_begin_inside}
 use Rattle.aw_disk.specs.Images.{overwritten, Torn-overwritten}
 use Rattle.aw_disk.specs.MemDisk.{content_after, LeftAfter, LeftAfter-content}
 use Rattle.aw_disk.specs.Covered.{is_write, reaches, writes_since, synced_count, synced_content}
 use Rattle.aw_disk.specs.Picked.{picked_byte, IsPicked}
-use Rattle.aw_disk.specs.Replay.{picked, left_by}
-use Rattle.aw_disk.proofs.Replaying.{picked-torn, left_by-left, left_by-kept, content_after-append, LeftAfter-append, all_begin_inside-append, list_all-writes_since}
+use Rattle.aw_disk.specs.inside.PickedImages.{picked, left_by}
+use Rattle.aw_disk.proofs.PickedImages.{picked-torn, left_by-left, left_by-kept, content_after-append, LeftAfter-append, all_begin_inside-append, list_all-writes_since}
 
 -- an image after writes since a sync, and the content
 pub record Picks (pick : Pick) (synced : List ℕ) (since : List Step) (content image : List ℕ) : Type 0 where

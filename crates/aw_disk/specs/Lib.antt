@@ -1,10 +1,9 @@
 pub mod Calls
 pub mod Covered
 pub mod FileDisk
-pub mod Held
 pub mod Images
 pub mod MemDisk
 pub mod Moments
 pub mod Picked
-pub mod Replay
 pub mod SureDisk
+pub mod inside

@@ -1,6 +1,6 @@
 ghost use Rattle.std.specs.Prelude.{◌≡◌, ◌⊎◌, ◌<◌, ◌≤◌, ◌+◌, ◌↔◌, Some, [], length, take, Contains, IfOk, OnOk, OnErr, IsErr};
 ghost use Rattle.aw_disk.specs.Calls.{Reads, length_limit};
-ghost use Rattle.aw_disk.specs.Held.{started};
+ghost use Rattle.aw_disk.specs.inside.MemDiskSteps.{started};
 ghost use Rattle.aw_disk.specs.MemDisk.{content_of, left_at, counted, faulted, with_step, first_half, is_content-left};
 ghost use Rattle.aw_disk.specs.Picked.{IsPicked};
 ghost use Rattle.aw_disk.specs.declared.step.Step.TheVariants.{Write, Sync};
@@ -30,7 +30,7 @@ pub struct MemDisk {
 
 impl Model for MemDisk {
     ghost use Rattle.aw_disk.specs.MemDisk.{MemDiskState};
-    ghost use Rattle.aw_disk.specs.Held.{started, IsReplayed};
+    ghost use Rattle.aw_disk.specs.inside.MemDiskSteps.{started, IsReplayed};
 
     ghost Value = { MemDiskState };
 

@@ -1,7 +1,7 @@
 ghost use Rattle.std.specs.Prelude.{◌≡◌, ◌++◌, length, replicate, reverse, take_while, OnOk};
 ghost use Rattle.aw_disk.specs.Images.{overwritten};
 ghost use Rattle.aw_disk.specs.Covered.{is_write, synced_count};
-ghost use Rattle.aw_disk.specs.Replay.{picked, left_by};
+ghost use Rattle.aw_disk.specs.inside.PickedImages.{picked, left_by};
 
 use crate::NoMemory;
 use crate::placing::overwrite;

@@ -4,14 +4,14 @@ use Rattle.std.proofs.lemmas.List.{take_at, drop_at, drop-drop}
 use Rattle.std.specs.Int.{from_be_bytes, w32}
 use Rattle.aw_journal.specs.Format.{head, frames, size_bytes, AreShort, CutShort, Holds, placed}
 use Rattle.aw_journal.specs.Loads.{Explains}
-use Rattle.aw_journal.specs.Reading.{Begins, HasRead, IsFrame, FrameExplains}
+use Rattle.aw_journal.specs.inside.FramesRead.{Begins, HasRead, IsFrame, FrameExplains}
 use Rattle.aw_journal.specs.declared.payload.Payload.{Payload}
 use Rattle.aw_journal.specs.declared.gate.Gate.{Gate}
 use Rattle.aw_journal.specs.declared.gate.Gate.TheVariants as gate
 use Rattle.aw_journal.specs.declared.fault.LoadFault.{LoadFault}
 use Rattle.aw_journal.specs.declared.fault.LoadFault.TheVariants as fault
 use Rattle.aw_journal.proofs.callers.Frames.{length-size_bytes, size-read, frames-push}
-use Rattle.aw_journal.proofs.Reading.{IfSome_both}
+use Rattle.aw_journal.proofs.FramesRead.{IfSome_both}
 
 pub placed-push : (offset : ℕ) (payloads : List (List ℕ)) (payload : List ℕ) →
     placed offset (payloads ++ payload ∷ []) ≡ placed offset payloads ++ record { offset = offset + length (frames payloads); bytes = payload } ∷ []

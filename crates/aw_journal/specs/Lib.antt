@@ -2,8 +2,8 @@ pub mod Bytes
 pub mod Format
 pub mod Journal
 pub mod Laws
-pub mod Left
 pub mod Loads
 pub mod Passed
-pub mod Reading
 pub mod Undisturbed
+pub mod inside
+pub mod CrashPayloads

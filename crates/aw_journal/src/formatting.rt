@@ -3,7 +3,7 @@ ghost use Rattle.aw_disk.specs.Calls.{Written};
 ghost use Rattle.aw_disk.specs.Images.{TornFrom};
 ghost use Rattle.aw_lists.specs.Faults.{Rose};
 ghost use Rattle.aw_journal.specs.Format.{head, IsFormatted};
-ghost use Rattle.aw_journal.specs.Left.{AllHold};
+ghost use Rattle.aw_journal.specs.CrashPayloads.{AllHold};
 ghost use Rattle.aw_journal.specs.Passed.{Passed};
 ghost use Rattle.aw_journal.specs.Undisturbed.{Undisturbed};
 

@@ -1,5 +1,5 @@
 ghost use Rattle.std.specs.Prelude.{◌<◌, length};
-ghost use Rattle.aw_journal.specs.Reading.{Begins};
+ghost use Rattle.aw_journal.specs.inside.FramesRead.{Begins};
 
 /// A gate, and what of its frame's length stands behind it.
 #[derive(Clone, Copy, Debug, PartialEq, Eq)]

@@ -3,7 +3,7 @@ ghost use Rattle.aw_disk.specs.Calls.{BothTold};
 ghost use Rattle.aw_lists.specs.Faults.{Rose};
 ghost use Rattle.aw_journal.specs.Bytes.{Appended, Repaired};
 ghost use Rattle.aw_journal.specs.Format.{size_bytes, Holds, CutShort, placed};
-ghost use Rattle.aw_journal.specs.Left.{AllHold, Left};
+ghost use Rattle.aw_journal.specs.CrashPayloads.{AllHold, Left};
 ghost use Rattle.aw_journal.specs.Loads.{Explains, IsAnswered, HoldsSome, disk_of};
 ghost use Rattle.aw_journal.specs.Passed.{Passed};
 
@@ -182,7 +182,7 @@ impl<D: Disk> Journal<D> {
     }
 
     /// What a crash now may leave. Without a doubt no gate was begun to be opened.
-    pub fn leaves(&self)
+    pub fn recall_invariant(&self)
         ensures certain { self.now.doubt ≡ None → self.now.opening ≡ false }
         ensures left { (image : Bytes ℕ) → D.crash self.now.disk (D.clock self.now.disk) image → Left self.now.settled self.now.doubt image }
     {

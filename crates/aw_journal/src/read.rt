@@ -3,7 +3,7 @@ ghost use Rattle.aw_disk.specs.Calls.{length_limit};
 ghost use Rattle.aw_journal.specs.Format.{head};
 ghost use Rattle.aw_journal.specs.Loads.{Explains};
 ghost use Rattle.aw_journal.specs.Passed.{Passed};
-ghost use Rattle.aw_journal.specs.Reading.{Begins, FrameExplains, IsFrame, Progress};
+ghost use Rattle.aw_journal.specs.inside.FramesRead.{Begins, FrameExplains, IsFrame, Progress};
 ghost use Rattle.aw_journal.specs.Undisturbed.{Undisturbed};
 
 use crate::fault::LoadFault;

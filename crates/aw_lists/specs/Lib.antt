@@ -1,4 +1,4 @@
 pub mod Coord
-pub mod CoordInside
 pub mod Faults
 pub mod Lending
+pub mod inside

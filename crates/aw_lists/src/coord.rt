@@ -15,7 +15,7 @@ pub struct Coord {
 
 impl Model for Coord {
     ghost use Rattle.std.specs.Prelude.{List, ℕ, length, take};
-    ghost use Rattle.aw_lists.specs.CoordInside.{IsPadded, padded, padded-slots, length-slots};
+    ghost use Rattle.aw_lists.specs.inside.PaddedCoord.{IsPadded, padded, padded-slots, length-slots};
 
     ghost Value = { List ℕ };
 

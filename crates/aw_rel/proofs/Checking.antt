@@ -4,7 +4,7 @@ use Rattle.std.specs.List.{filter, find, list_any, position_from, All, AllPairs}
 use Rattle.std.proofs.lemmas.Bool.Decides.{Decides-eqb}
 use Rattle.aw_cell.specs.declared.cell.Cell.{Cell}
 use Rattle.aw_cell.specs.declared.cell.Cell.TheVariants.{Na, Num, Int, Text, Bool as BooleanCell, Slot}
-use Rattle.aw_dim.specs.Values.{Entry, Values, IsDimension, position_of}
+use Rattle.aw_dim.specs.DimensionState.{Entry, DimensionState, IsDimension, position_of}
 use Rattle.aw_var.specs.CellMap.{Cells, cell_at}
 use Rattle.aw_rel.specs.Hierarchy.{parent_in, parent_of, tree_of, is_slot, is_above, is_among, first_loop}
 use Rattle.aw_rel.specs.inside.Tables.{parent_at, tree_by, AreParents, AreChildren, children_among, AreBelow, AreKin, IsHeld}
@@ -76,7 +76,7 @@ among_slots slot (e ∷ entries) h =
       | false ↦ λ _ rest. or_right (slot == e.0) (is_among (map (λ entry. entry.0) entries) slot) (among_slots slot entries rest)
     ] refl h
 
-parent_is_value : (values : Values) (cell : Cell) (above : ℕ) → parent_of values cell ≡ Some above → is_among (map (λ entry. entry.0) values.entries) above ≡ true
+parent_is_value : (values : DimensionState) (cell : Cell) (above : ℕ) → parent_of values cell ≡ Some above → is_among (map (λ entry. entry.0) values.entries) above ≡ true
 parent_is_value values Na above e = cc
 parent_is_value values (Num a) above e = cc
 parent_is_value values (Int a) above e = cc
@@ -90,7 +90,7 @@ parent_is_value values (Slot slot) above e =
     ] refl e
 
 -- the slots of a dimension's values are below its next one
-pub slots_below : (values : Values) (slots : List ℕ) (slot : ℕ) → IsDimension values → slots ≡ map (λ entry. entry.0) values.entries → is_among slots slot ≡ true → slot < values.next
+pub slots_below : (values : DimensionState) (slots : List ℕ) (slot : ℕ) → IsDimension values → slots ≡ map (λ entry. entry.0) values.entries → is_among slots slot ≡ true → slot < values.next
 slots_below values slots slot valid is among = each values.entries valid.slots_below (ap (λ (l : List ℕ). is_among l slot) (sym is) ∙ among)
   where
     each : (entries : List Entry) → All (λ entry. entry.0 < values.next) entries → is_among (map (λ entry. entry.0) entries) slot ≡ true → slot < values.next
@@ -101,7 +101,7 @@ slots_below values slots slot valid is among = each values.entries valid.slots_b
           | false ↦ λ _ rest. each entries (λ k d h. all (suc k) d (omega (arith, h))) rest
         ] refl among
 
-pub AreBelow-tables : (values : Values) (cells : Cells) (slots : List ℕ) (parents : List (Option ℕ)) → IsDimension values → slots ≡ map (λ entry. entry.0) values.entries → AreParents (λ slot. parent_of values (cell_at cells (slot ∷ []))) slots parents → length parents ≡ values.next →
+pub AreBelow-tables : (values : DimensionState) (cells : Cells) (slots : List ℕ) (parents : List (Option ℕ)) → IsDimension values → slots ≡ map (λ entry. entry.0) values.entries → AreParents (λ slot. parent_of values (cell_at cells (slot ∷ []))) slots parents → length parents ≡ values.next →
     AreBelow slots parents (length parents)
 AreBelow-tables values cells slots parents valid is are room = record {
   value = λ slot among. let less = slots_below values slots slot valid is among in omega (arith, less, room);
@@ -111,13 +111,13 @@ AreBelow-tables values cells slots parents valid is are room = record {
 }
 
 -- the tree of the tables is that of the relation
-tree-tables : (values : Values) (cells : Cells) (parents : List (Option ℕ)) (entries : List Entry) → ((slot : ℕ) → is_among (map (λ entry. entry.0) entries) slot ≡ true → parent_at parents slot ≡ parent_of values (cell_at cells (slot ∷ []))) →
+tree-tables : (values : DimensionState) (cells : Cells) (parents : List (Option ℕ)) (entries : List Entry) → ((slot : ℕ) → is_among (map (λ entry. entry.0) entries) slot ≡ true → parent_at parents slot ≡ parent_of values (cell_at cells (slot ∷ []))) →
     tree_by (map (λ entry. entry.0) entries) parents ≡ map (λ entry. (entry.0, parent_of values (cell_at cells (entry.0 ∷ [])))) entries
 tree-tables values cells parents [] same = refl
 tree-tables values cells parents (e ∷ entries) same =
     λ i. (e.0, same e.0 (or_left (e.0 == e.0) (is_among (map (λ entry. entry.0) entries) e.0) (number_itself e.0)) i) ∷ tree-tables values cells parents entries (λ slot among. same slot (or_right (slot == e.0) (is_among (map (λ entry. entry.0) entries) slot) among)) i
 
-pub tree-is : (values : Values) (cells : Cells) (slots : List ℕ) (parents : List (Option ℕ)) → slots ≡ map (λ entry. entry.0) values.entries → AreParents (λ slot. parent_of values (cell_at cells (slot ∷ []))) slots parents → tree_by slots parents ≡ tree_of values cells
+pub tree-is : (values : DimensionState) (cells : Cells) (slots : List ℕ) (parents : List (Option ℕ)) → slots ≡ map (λ entry. entry.0) values.entries → AreParents (λ slot. parent_of values (cell_at cells (slot ∷ []))) slots parents → tree_by slots parents ≡ tree_of values cells
 tree-is values cells slots parents is are =
     ap (λ (l : List ℕ). tree_by l parents) is
     ∙ tree-tables values cells parents values.entries (λ slot among. are slot ∙ ap (λ b. cond b (parent_of values (cell_at cells (slot ∷ []))) None) (ap (λ (l : List ℕ). is_among l slot) is ∙ among))
@@ -139,7 +139,7 @@ cleared_within [] slot h = cc
 cleared_within (b ∷ marks) zero h = omega arith
 cleared_within (b ∷ marks) (suc slot) h = let rest = cleared_within marks slot h in omega (arith, rest)
 
-module _ (values : Values) (cells : Cells) (slots : List ℕ) (parents : List (Option ℕ)) (children : List (List ℕ)) (cleared : List Bool) (passed upward : List ℕ) (valid : IsDimension values) (is : slots ≡ map (λ entry. entry.0) values.entries)
+module _ (values : DimensionState) (cells : Cells) (slots : List ℕ) (parents : List (Option ℕ)) (children : List (List ℕ)) (cleared : List Bool) (passed upward : List ℕ) (valid : IsDimension values) (is : slots ≡ map (λ entry. entry.0) values.entries)
     (are : AreParents (λ slot. parent_of values (cell_at cells (slot ∷ []))) slots parents) (clearing : IsClearing parents children cleared passed upward) (settled : (slot : ℕ) → is_among slots slot ≡ true → IsSettled parents cleared slot) where
   found : (slot : ℕ) → parent_at parents slot ≡ parent_in (tree_by slots parents) slot
   found slot = parent-by slots parents (λ s. parent_of values (cell_at cells (s ∷ []))) slot are
@@ -192,7 +192,7 @@ module _ (values : Values) (cells : Cells) (slots : List ℕ) (parents : List (O
       }
 
 -- the tables of a dimension and a relation
-pub record AreMade (values : Values) (cells : Cells) (slots : List ℕ) (parents : List (Option ℕ)) (children : List (List ℕ)) : Type 0 where
+pub record AreMade (values : DimensionState) (cells : Cells) (slots : List ℕ) (parents : List (Option ℕ)) (children : List (List ℕ)) : Type 0 where
   pub valid : IsDimension values
   pub is : slots ≡ map (λ entry. entry.0) values.entries
   pub are : AreParents (λ slot. parent_of values (cell_at cells (slot ∷ []))) slots parents
@@ -200,21 +200,21 @@ pub record AreMade (values : Values) (cells : Cells) (slots : List ℕ) (parents
   pub kin : AreChildren parents slots children
   pub size : length children ≡ length parents
 
-pub room_of : (values : Values) (slots given : List ℕ) (room slot : ℕ) → IsDimension values → slots ≡ map (λ entry. entry.0) values.entries → given ≡ slots → room ≡ values.next → is_among given slot ≡ true → slot < room
+pub room_of : (values : DimensionState) (slots given : List ℕ) (room slot : ℕ) → IsDimension values → slots ≡ map (λ entry. entry.0) values.entries → given ≡ slots → room ≡ values.next → is_among given slot ≡ true → slot < room
 room_of values slots given room slot valid is same next among =
     let less = slots_below values slots slot valid is (ap (λ (l : List ℕ). is_among l slot) (sym same) ∙ among) in omega (arith, less, next)
 
-are_of : (values : Values) (cells : Cells) (slots given : List ℕ) (parents : List (Option ℕ)) → given ≡ slots → AreParents (λ slot. parent_of values (cell_at cells (slot ∷ []))) given parents → AreParents (λ slot. parent_of values (cell_at cells (slot ∷ []))) slots parents
+are_of : (values : DimensionState) (cells : Cells) (slots given : List ℕ) (parents : List (Option ℕ)) → given ≡ slots → AreParents (λ slot. parent_of values (cell_at cells (slot ∷ []))) given parents → AreParents (λ slot. parent_of values (cell_at cells (slot ∷ []))) slots parents
 are_of values cells slots given parents same are = subst (λ (l : List ℕ). AreParents (λ slot. parent_of values (cell_at cells (slot ∷ []))) l parents) same are
 
 -- for children, slots and parents are given as slices
-pub below_of : (values : Values) (cells : Cells) (slots one two : List ℕ) (parents three : List (Option ℕ)) (room : ℕ) → IsDimension values → slots ≡ map (λ entry. entry.0) values.entries → one ≡ slots → two ≡ slots → three ≡ parents → room ≡ values.next →
+pub below_of : (values : DimensionState) (cells : Cells) (slots one two : List ℕ) (parents three : List (Option ℕ)) (room : ℕ) → IsDimension values → slots ≡ map (λ entry. entry.0) values.entries → one ≡ slots → two ≡ slots → three ≡ parents → room ≡ values.next →
     AreParents (λ slot. parent_of values (cell_at cells (slot ∷ []))) one parents → length parents ≡ room → AreBelow two three (length three)
 below_of values cells slots one two parents three room valid is first second third next are size =
     subst (λ (l : List ℕ). AreBelow l three (length three)) (sym second)
     (subst (λ (p : List (Option ℕ)). AreBelow slots p (length p)) (sym third) (AreBelow-tables values cells slots parents valid is (are_of values cells slots one parents first are) (size ∙ next)))
 
-pub made_of : (values : Values) (cells : Cells) (slots one two : List ℕ) (parents three : List (Option ℕ)) (children : List (List ℕ)) (room : ℕ) → IsDimension values → slots ≡ map (λ entry. entry.0) values.entries → one ≡ slots → two ≡ slots → three ≡ parents → room ≡ values.next →
+pub made_of : (values : DimensionState) (cells : Cells) (slots one two : List ℕ) (parents three : List (Option ℕ)) (children : List (List ℕ)) (room : ℕ) → IsDimension values → slots ≡ map (λ entry. entry.0) values.entries → one ≡ slots → two ≡ slots → three ≡ parents → room ≡ values.next →
     AreParents (λ slot. parent_of values (cell_at cells (slot ∷ []))) one parents → length parents ≡ room → AreChildren three two children → length children ≡ length three → AreMade values cells slots parents children
 made_of values cells slots one two parents three children room valid is first second third next are size kin count = record {
   valid = valid;
@@ -225,17 +225,17 @@ made_of values cells slots one two parents three children room valid is first se
   size = count ∙ ap (λ (p : List (Option ℕ)). length p) third;
 }
 
-pub kin_of : (values : Values) (cells : Cells) (slots : List ℕ) (parents five : List (Option ℕ)) (children six : List (List ℕ)) → AreMade values cells slots parents children → five ≡ parents → six ≡ children → AreKin five six
+pub kin_of : (values : DimensionState) (cells : Cells) (slots : List ℕ) (parents five : List (Option ℕ)) (children six : List (List ℕ)) → AreMade values cells slots parents children → five ≡ parents → six ≡ children → AreKin five six
 kin_of values cells slots parents five children six made fifth sixth =
     subst (λ (p : List (Option ℕ)). AreKin p six) (sym fifth) (subst (λ (c : List (List ℕ)). AreKin parents c) (sym sixth) (AreKin-tables (λ slot. parent_of values (cell_at cells (slot ∷ []))) slots parents children made.are made.below made.kin made.size))
 
-pub value_below : (values : Values) (cells : Cells) (slots four : List ℕ) (parents five : List (Option ℕ)) (children : List (List ℕ)) (slot : ℕ) → AreMade values cells slots parents children → four ≡ slots → five ≡ parents → is_among four slot ≡ true → slot < length five
+pub value_below : (values : DimensionState) (cells : Cells) (slots four : List ℕ) (parents five : List (Option ℕ)) (children : List (List ℕ)) (slot : ℕ) → AreMade values cells slots parents children → four ≡ slots → five ≡ parents → is_among four slot ≡ true → slot < length five
 value_below values cells slots four parents five children slot made fourth fifth among =
     let less = made.below.value slot (ap (λ (l : List ℕ). is_among l slot) (sym fourth) ∙ among) in
     let long = ap (λ (p : List (Option ℕ)). length p) fifth in
     omega (arith, less, long)
 
-pub mark_below : (values : Values) (cells : Cells) (slots seven : List ℕ) (parents five : List (Option ℕ)) (children six : List (List ℕ)) (cleared eight : List Bool) (passed upward : List ℕ) (slot : ℕ) → AreMade values cells slots parents children → seven ≡ slots → five ≡ parents → eight ≡ cleared →
+pub mark_below : (values : DimensionState) (cells : Cells) (slots seven : List ℕ) (parents five : List (Option ℕ)) (children six : List (List ℕ)) (cleared eight : List Bool) (passed upward : List ℕ) (slot : ℕ) → AreMade values cells slots parents children → seven ≡ slots → five ≡ parents → eight ≡ cleared →
     IsClearing five six cleared passed upward → is_among seven slot ≡ true → slot < length eight
 mark_below values cells slots seven parents five children six cleared eight passed upward slot made seventh fifth eighth clearing among =
     let less = value_below values cells slots seven parents five children slot made seventh fifth among in
@@ -252,13 +252,13 @@ settled_of slots four parents five cleared fourth fifth h slot among = subst (λ
 left_of : (slots seven : List ℕ) (cleared eight : List Bool) (r : Option ℕ) → seven ≡ slots → eight ≡ cleared → r ≡ find (λ slot. not (is_cleared eight slot)) seven → r ≡ find (λ slot. not (is_cleared cleared slot)) slots
 left_of slots seven cleared eight r seventh eighth e = e ∙ ap (λ (l : List ℕ). find (λ slot. not (is_cleared eight slot)) l) seventh ∙ ap (λ (m : List Bool). find (λ slot. not (is_cleared m slot)) slots) eighth
 
-pub first_of : (values : Values) (cells : Cells) (slots four seven : List ℕ) (parents five : List (Option ℕ)) (children six : List (List ℕ)) (cleared eight : List Bool) (passed upward : List ℕ) (r : Option ℕ) → AreMade values cells slots parents children →
+pub first_of : (values : DimensionState) (cells : Cells) (slots four seven : List ℕ) (parents five : List (Option ℕ)) (children six : List (List ℕ)) (cleared eight : List Bool) (passed upward : List ℕ) (r : Option ℕ) → AreMade values cells slots parents children →
     four ≡ slots → five ≡ parents → six ≡ children → seven ≡ slots → eight ≡ cleared → IsClearing five six cleared passed upward → ((slot : ℕ) → is_among four slot ≡ true → IsSettled five cleared slot) → r ≡ find (λ slot. not (is_cleared eight slot)) seven →
     first_loop (tree_of values cells) ≡ r
 first_of values cells slots four seven parents five children six cleared eight passed upward r made fourth fifth sixth seventh eighth clearing settled e =
     first_is values cells slots parents children cleared passed upward made.valid made.is made.are (clearing_of parents five children six cleared passed upward fifth sixth clearing) (settled_of slots four parents five cleared fourth fifth settled) r (left_of slots seven cleared eight r seventh eighth e)
 
-pub held_of : (values : Values) (cells : Cells) (slots four seven : List ℕ) (parents five : List (Option ℕ)) (children six : List (List ℕ)) (cleared eight : List Bool) (passed upward : List ℕ) (r : Option ℕ) → AreMade values cells slots parents children →
+pub held_of : (values : DimensionState) (cells : Cells) (slots four seven : List ℕ) (parents five : List (Option ℕ)) (children six : List (List ℕ)) (cleared eight : List Bool) (passed upward : List ℕ) (r : Option ℕ) → AreMade values cells slots parents children →
     four ≡ slots → five ≡ parents → six ≡ children → seven ≡ slots → eight ≡ cleared → IsClearing five six cleared passed upward → ((slot : ℕ) → is_among four slot ≡ true → IsSettled five cleared slot) → r ≡ find (λ slot. not (is_cleared eight slot)) seven → r ≡ None →
     IsHeld slots parents children upward
 held_of values cells slots four seven parents five children six cleared eight passed upward r made fourth fifth sixth seventh eighth clearing settled e none =

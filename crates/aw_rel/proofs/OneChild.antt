@@ -5,8 +5,9 @@ use Rattle.std.specs.Prelude.{nat_lt}
 use Rattle.std.proofs.lemmas.Bool.Decides.{Decides-eqb, Decides-ltb}
 use Rattle.aw_rel.specs.Hierarchy.{Tree, parent_in, is_slot, parent_above, up, is_above, is_within, is_among, slots_in, children_in, is_leaf, IsHierarchy}
 use Rattle.aw_rel.specs.Laws.{LeavesAreOfOneChild}
-use Rattle.aw_rel.proofs.Steps.{or_right, or_left, both_true, and_true, same_number, slot_of_test, test_of_slot, some_same, up-sum, before, leads_of, above_by}
+use Rattle.aw_rel.proofs.Steps.{or_right, or_left, same_number, slot_of_test, test_of_slot, some_same, up-sum, before, leads_of, above_by}
 use Rattle.aw_rel.proofs.Loops.{no_loop_at}
+use Rattle.aw_var.proofs.callers.FiniteMaps.{both_true, and_true}
 
 -- what stands among the values that pass a test on their slots
 pub filter_among : (q : ℕ → Bool) (tree : Tree) (v : ℕ) → is_among (slots_in (filter (λ value. q value.0) tree)) v ≡ true → (is_among (slots_in tree) v ≡ true) × (q v ≡ true)

@@ -5,7 +5,7 @@ use Rattle.std.specs.List.{filter, find, list_any, AllPairs}
 use Rattle.std.specs.Option.{option_map}
 use Rattle.aw_cell.specs.declared.cell.Cell.{Cell}
 use Rattle.aw_cell.specs.declared.cell.Cell.TheVariants.{Slot}
-use Rattle.aw_dim.specs.Values.{Values, position_of}
+use Rattle.aw_dim.specs.DimensionState.{DimensionState, position_of}
 use Rattle.aw_var.specs.CellMap.{Cells, cell_at}
 use Rattle.aw_rel.specs.declared.fault.RelFault.{RelFault}
 use Rattle.aw_rel.specs.declared.fault.RelFault.TheVariants.{Loop, NoMemory}
@@ -14,12 +14,12 @@ abbrev pub Tree : Type 0
 Tree = List (ℕ × Option ℕ)
 
 -- the slot in a cell of the relation, where a value of the dimension has it
-abbrev pub parent_of : Values → Cell → Option ℕ
+abbrev pub parent_of : DimensionState → Cell → Option ℕ
 parent_of values (Slot slot) = cond (is_some (position_of values slot)) (Some slot) None
 parent_of values _ = None
 
 -- the values of a dimension, with the parents that a relation gives them
-abbrev pub tree_of : Values → Cells → Tree
+abbrev pub tree_of : DimensionState → Cells → Tree
 tree_of values cells = map (λ entry. (entry.0, parent_of values (cell_at cells (entry.0 ∷ [])))) values.entries
 
 -- the parent of the value with a slot

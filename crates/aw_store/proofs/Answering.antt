@@ -4,9 +4,9 @@ use Rattle.aw_journal.specs.Loads.{IsAnswered}
 use Rattle.aw_journal.specs.declared.fault.LoadFault.{LoadFault}
 use Rattle.aw_journal.specs.declared.fault.LoadFault.TheVariants.{Unformatted, Damaged, DiskFault, NoMemory}
 use Rattle.aw_journal.proofs.CallerLemmas.{IsOne, IsWhy, loaded, refused}
-use Rattle.aw_store.specs.Images.{HoldsRecords, HoldsSomeRecords, IsDamaged, IsRefused}
+use Rattle.aw_store.specs.StoredRecords.{HoldsRecords, HoldsSomeRecords, IsDamaged, IsRefused}
 use Rattle.aw_store.specs.Stores.{StoreState}
-use Rattle.aw_store.proofs.Reading.{reads_records_one_way}
+use Rattle.aw_store.proofs.UniqueRecords.{reads_records_one_way}
 
 is_one : (image : List ℕ) → IsOne IsDamaged HoldsSomeRecords image
 is_one image =

@@ -3,8 +3,8 @@ pub mod Answering
 pub mod Granting
 pub mod Loading
 pub mod Payloads
-pub mod Reading
 pub mod Steps
 pub mod Taking
 pub mod Writing
 pub mod callers
+pub mod UniqueRecords

@@ -4,12 +4,11 @@ use Rattle.aw_journal.specs.Format.{Holds, frames, placed}
 use Rattle.aw_journal.specs.declared.fault.LoadFault.{LoadFault}
 use Rattle.aw_journal.specs.declared.fault.LoadFault.TheVariants.{Unformatted, Damaged, DiskFault, NoMemory}
 use Rattle.aw_journal.specs.declared.payload.Payload.{Payload}
-use Rattle.aw_store.specs.Images.{HoldsRecords, IsBadRecord, IsRefused}
+use Rattle.aw_store.specs.StoredRecords.{HoldsRecords, IsBadRecord, IsRefused, stood_by}
 use Rattle.mv_core.specs.Workspace.{Table}
 use Rattle.std.specs.Option.{option_map}
-use Rattle.aw_store.specs.Recorded.{record_from, AreSpellings, LogState}
-use Rattle.aw_store.specs.Replay.{stood_by}
-use Rattle.aw_store.specs.Replaying.{bytes_of, IsStopped, Stops}
+use Rattle.aw_store.specs.inside.PayloadRecords.{record_from, AreSpellings, LogState}
+use Rattle.aw_store.specs.inside.ReplaySteps.{bytes_of, IsStopped, Stops}
 
 -- ---- the payloads of a journal
 

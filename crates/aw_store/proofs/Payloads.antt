@@ -6,8 +6,8 @@ use Rattle.aw_journal.specs.Format.{frames, size_bytes, placed}
 use Rattle.aw_journal.proofs.callers.Frames.{length-size_bytes}
 use Rattle.aw_journal.specs.declared.payload.Payload.{Payload}
 use Rattle.mv_core.specs.Workspace.{Table}
-use Rattle.aw_store.specs.Recorded.{record_from, AreSpellings}
-use Rattle.aw_store.specs.Replaying.{bytes_of, Leave, AreReplayed, IsStopped, IsNoNext, Taken}
+use Rattle.aw_store.specs.inside.PayloadRecords.{record_from, AreSpellings}
+use Rattle.aw_store.specs.inside.ReplaySteps.{bytes_of, Leave, AreReplayed, IsStopped, IsNoNext, Taken}
 use Rattle.aw_store.proofs.callers.Spellings.{one_more, settled_more}
 
 pub length-front : (i : ℕ) (payloads : List Payload) → length (map record_from (take i (map bytes_of payloads))) ≤ length payloads

@@ -15,7 +15,7 @@ use Rattle.mv_core.specs.SharedStep.{writes, takes_memory, table_after, shared_s
 use Rattle.mv_core.specs.Workspace.{Workspace, Table, table_of}
 use Rattle.mv_core.proofs.CallerLemmas.{IsLegal-from_answered}
 use Rattle.aw_store.specs.Stores.{StoreState, Answers, Faults, IsTooLong, IsGranted, Doubts, Writes, Acts, record_of, AsksFor, IsLegalOnDisk}
-use Rattle.aw_store.proofs.callers.Plain.{IsPlain, plain-reply}
+use Rattle.aw_store.proofs.callers.SharedReplies.{IsPlain, plain-reply}
 
 abbrev pub with_objects : Table → List (Option (Object Body)) → Table
 with_objects table objects = record table { objects = objects }

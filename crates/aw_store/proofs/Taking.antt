@@ -19,9 +19,8 @@ use Rattle.aw_journal.specs.declared.payload.Payload.{Payload}
 use Rattle.mv_core.specs.Following.{followed_by}
 use Rattle.mv_core.specs.Replies.{may_follow}
 use Rattle.mv_core.specs.Workspace.{Table, opened, table_of}
-use Rattle.aw_store.specs.Replay.{are_replayed, are_accepted_after, can_replay, definitions_of, workspace_of}
-use Rattle.aw_store.specs.Images.{IsStored}
-use Rattle.aw_store.specs.Replaying.{Leave, IsNoNext, bytes_of, last_bytes}
+use Rattle.aw_store.specs.StoredRecords.{are_replayed, are_accepted_after, can_replay, definitions_of, workspace_of, IsStored}
+use Rattle.aw_store.specs.inside.ReplaySteps.{Leave, IsNoNext, bytes_of, last_bytes}
 use Rattle.aw_store.proofs.callers.Following.{can_replay-defined, can_replay-first, may-follow, Leave-commit, Leave-defined, answered}
 use Rattle.aw_store.proofs.callers.Spellings.{found}
 

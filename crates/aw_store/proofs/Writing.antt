@@ -16,9 +16,8 @@ use Rattle.mv_core.specs.Effects.{objects_after}
 use Rattle.mv_core.specs.Replies.{reply_of}
 use Rattle.mv_core.specs.SharedStep.{writes}
 use Rattle.mv_core.specs.Workspace.{Table, opened, table_of}
-use Rattle.aw_store.specs.Images.{IsStored}
-use Rattle.aw_store.specs.Recorded.{record_from, IsNext, LogState}
-use Rattle.aw_store.specs.Replay.{can_replay}
+use Rattle.aw_store.specs.StoredRecords.{IsStored, can_replay}
+use Rattle.aw_store.specs.inside.PayloadRecords.{record_from, IsNext, LogState}
 use Rattle.aw_store.specs.Stores.{StoreState, Writes, Doubts, Acts, IsTooLong, AsksFor, StandFor, record_of}
 use Rattle.aw_store.proofs.callers.Commits.{CanWrite, can-write-prepared, StandFor-written, StandFor-defined}
 use Rattle.aw_store.proofs.callers.Spellings.{found, IsNext-spelled}

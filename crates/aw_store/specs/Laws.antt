@@ -2,7 +2,7 @@
 use Rattle.std.specs.Prelude.{◌≡◌, ◌⊎◌, ℕ, List}
 use Rattle.aw_codec.specs.declared.record.Decoded.{Decoded}
 use Rattle.aw_journal.specs.Format.{IsUnformatted}
-use Rattle.aw_store.specs.Images.{HoldsRecords, IsDamaged}
+use Rattle.aw_store.specs.StoredRecords.{HoldsRecords, IsDamaged}
 
 -- the image is unformatted, or holds records that can be replayed, or is damaged
 abbrev pub ReadsRecords : List ℕ → Type 0

@@ -1,6 +1,4 @@
-pub mod Replay
-pub mod Images
 pub mod Stores
-pub mod Recorded
-pub mod Replaying
 pub mod Laws
+pub mod inside
+pub mod StoredRecords

@@ -15,7 +15,7 @@ use Rattle.mv_core.specs.declared.entry.Reply.TheVariants.{NoMemory, Fault, TooL
 use Rattle.mv_core.specs.Replies.{reply_of}
 use Rattle.mv_core.specs.SharedStep.{writes, takes_memory, table_after, shared_step, IsLegal}
 use Rattle.mv_core.specs.Workspace.{Workspace, Table, table_of}
-use Rattle.aw_store.specs.Replay.{can_replay, definitions_of, stood_by}
+use Rattle.aw_store.specs.StoredRecords.{can_replay, definitions_of, stood_by}
 
 -- the disk; the settled records; the record in doubt after a disk fault; the definitions, and each object as it stands
 pub record StoreState (D : Type 0) : Type 0 where

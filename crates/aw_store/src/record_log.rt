@@ -2,10 +2,10 @@ ghost use Rattle.std.specs.Prelude.{◌≡◌, ◌⊎◌, ◌≤◌, ◌++◌, �
 ghost use Rattle.std.specs.Option.{option_map};
 ghost use Rattle.aw_lists.specs.Faults.{Rose};
 ghost use Rattle.aw_codec.specs.Records.{FitsPayload};
-ghost use Rattle.aw_journal.specs.Left.{Left};
+ghost use Rattle.aw_journal.specs.CrashPayloads.{Left};
 ghost use Rattle.aw_journal.specs.Passed.{Passed};
-ghost use Rattle.aw_store.specs.Images.{AreRecords, HoldsRecords, LeftRecords};
-ghost use Rattle.aw_store.specs.Recorded.{record_from, last_spelling, IsNext, IsLast, AreSpellings};
+ghost use Rattle.aw_store.specs.StoredRecords.{AreRecords, HoldsRecords, LeftRecords, last_spelling};
+ghost use Rattle.aw_store.specs.inside.PayloadRecords.{record_from, IsNext, IsLast, AreSpellings};
 
 use aw_disk::Disk;
 use aw_journal::Journal;
@@ -33,7 +33,7 @@ pub struct RecordLog<D: Disk> {
 impl<D: Disk> Model for RecordLog<D> {
     ghost use Rattle.std.specs.Prelude.{map};
     ghost use Rattle.std.specs.Option.{option_map};
-    ghost use Rattle.aw_store.specs.Recorded.{record_from, AreSpellings, IsLast, LogState};
+    ghost use Rattle.aw_store.specs.inside.PayloadRecords.{record_from, AreSpellings, IsLast, LogState};
 
     ghost Value = { LogState D };
 
@@ -97,11 +97,11 @@ impl<D: Disk> RecordLog<D> {
     }
 
     /// Each settled record has a spelling, and what a crash now may leave.
-    pub fn leaves(&self)
+    pub fn recall_invariant(&self)
         ensures spellings { AreRecords self.now.records }
         ensures images { (image : Items ℕ) → D.crash self.now.disk (D.clock self.now.disk) image → LeftRecords self.now.records self.now.doubt image }
     {
-        self.journal.leaves();
+        self.journal.recall_invariant();
     }
 
     /// The disk, to be read.
@@ -130,7 +130,7 @@ fn make_ready<D: Disk>(journal: &mut Journal<D>, bytes: u32) -> Result<(), Unwri
     ensures later { D.faults journal.old.disk ≤ D.faults journal.new.disk }
     ensures cause { result ≡ Err Unwritten.DiskFault → Rose (D.faults journal.old.disk) (D.faults journal.new.disk) }
 {
-    journal.leaves();
+    journal.recall_invariant();
     if journal.reserve(bytes).is_err() {
         return Err(Unwritten::NoMemory);
     }

@@ -6,9 +6,9 @@ ghost use Rattle.aw_codec.specs.declared.record.Decoded.{Decoded};
 ghost use Rattle.aw_codec.specs.declared.record.Decoded.TheVariants.{Definitions, Commit};
 ghost use Rattle.aw_codec.specs.Records.{IsRecord, IsDefinition};
 ghost use Rattle.aw_journal.specs.Format.{placed};
-ghost use Rattle.aw_store.specs.Replay as replay;
-ghost use Rattle.aw_store.specs.Replay.{are_accepted_after, can_replay};
-ghost use Rattle.aw_store.specs.Replaying.{Leave, IsNoNext, Taken, bytes_of, last_bytes, AreReplayed, Stops};
+ghost use Rattle.aw_store.specs.StoredRecords as replay;
+ghost use Rattle.aw_store.specs.StoredRecords.{are_accepted_after, can_replay};
+ghost use Rattle.aw_store.specs.inside.ReplaySteps.{Leave, IsNoNext, Taken, bytes_of, last_bytes, AreReplayed, Stops};
 
 use crate::NoMemory;
 use aw_body::Change;

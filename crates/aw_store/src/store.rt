@@ -14,9 +14,7 @@ ghost use Rattle.mv_core.specs.declared.entry.Reply.TheVariants as answer;
 ghost use Rattle.mv_core.specs.Lookups.{kept_at};
 ghost use Rattle.mv_core.specs.Objects.{IsTable};
 ghost use Rattle.mv_core.specs.Workspace.{Workspace, opened, table_of};
-ghost use Rattle.aw_store.specs.Replay.{are_replayed, can_replay, definitions_of, stood_by};
-ghost use Rattle.aw_store.specs.Images.{AreRecords, HoldsRecords, HoldsSomeRecords, LeftRecords, IsDamaged, IsRefused};
-ghost use Rattle.aw_store.specs.Recorded.{last_spelling};
+ghost use Rattle.aw_store.specs.StoredRecords.{are_replayed, can_replay, definitions_of, stood_by, AreRecords, HoldsRecords, HoldsSomeRecords, LeftRecords, IsDamaged, IsRefused, last_spelling};
 ghost use Rattle.aw_store.specs.Stores.{record_of, AsksFor, IsGranted, Doubts, Writes, Acts, IsLegalOnDisk};
 
 use crate::record_log::{RecordLog, Unwritten};
@@ -126,7 +124,7 @@ impl<D: Disk> Store<D> {
     /// What holds between two calls: each record has a spelling, the records can be replayed, the
     /// definitions are those of the records, the objects stand as their commits left them, each body in
     /// the form of its definition, and a crash now leaves the settled records, or these and the one in doubt.
-    pub fn stands(&self)
+    pub fn recall_invariant(&self)
         ensures spellings { AreRecords self.now.records }
         ensures replayable { IsTrue (can_replay self.now.records) }
         ensures table { (owners : Owners) × (self.now.table ≡ stood_by self.now.records owners) }
@@ -134,7 +132,7 @@ impl<D: Disk> Store<D> {
         ensures forms { IsTable self.now.table.definitions self.now.table.objects }
         ensures images { (image : Items ℕ) → D.crash self.now.disk (D.clock self.now.disk) image → LeftRecords self.now.records self.now.doubt image }
     {
-        self.log.leaves();
+        self.log.recall_invariant();
         let _ = self.shared.keeps(0);
     }
 
@@ -156,9 +154,9 @@ impl<D: Disk> Store<D> {
         ensures later { D.faults self.old.disk ≤ D.faults self.new.disk }
         ensures cause { result ≡ Err StoreFault.DiskFault → Rose (D.faults self.old.disk) (D.faults self.new.disk) }
     {
-        self.log.leaves();
+        self.log.recall_invariant();
         let defined = self.put_definitions(catalogue);
-        self.log.leaves();
+        self.log.recall_invariant();
         defined
     }
 
@@ -211,9 +209,9 @@ impl<D: Disk> Store<D> {
         ensures later { D.faults self.old.disk ≤ D.faults self.new.disk }
         ensures cause { result ≡ answer.Fault → Rose (D.faults self.old.disk) (D.faults self.new.disk) }
     {
-        self.log.leaves();
+        self.log.recall_invariant();
         let reply = self.answer(entry);
-        self.log.leaves();
+        self.log.recall_invariant();
         reply
     }
 

@@ -66,7 +66,7 @@ found_below slots n (e ∷ es) all some =
     ] refl
 
 -- what was patched so far, and the sheets of both maps that are left
-pub record Left (kind : Kind) (slots : ℕ) (olds news : Sheets) (items : Cells) (a b : List (ℕ × Cell)) : Type 0 where
+pub record StillToCome (kind : Kind) (slots : ℕ) (olds news : Sheets) (items : Cells) (a b : List (ℕ × Cell)) : Type 0 where
   pub old : Ordered kind olds
   pub new : Ordered kind news
   pub old_under : below slots (all_numbered olds) ≡ true
@@ -77,7 +77,7 @@ pub ordered : (kind : Kind) (es : Sheets) → AreSheets kind es → Ordered kind
 ordered kind es h = record { sorted = is_sorted_of es h.ordered; each = EachSheet-AreSheets kind es h }
 
 pub left_first : (kind kind' : Kind) (slots : ℕ) (olds news : Sheets) (a b : NumberedMap) → AreSheets kind news → AreSheets kind' olds → shown kind news ≡ b → shown kind' olds ≡ a → b.kind ≡ a.kind →
-    AreNumbersOf slots a.cells → AreNumbersOf slots b.cells → Left kind slots olds news [] a.cells b.cells
+    AreNumbersOf slots a.cells → AreNumbersOf slots b.cells → StillToCome kind slots olds news [] a.cells b.cells
 left_first kind kind' slots olds news a b h g is was same under over =
     let kinds : kind' ≡ kind = ap (λ (m : NumberedMap). m.kind) was ∙ sym same ∙ ap (λ (m : NumberedMap). m.kind) (sym is) in
     let ea : a.cells ≡ all_numbered olds = ap (λ (m : NumberedMap). m.cells) (sym was) in
@@ -114,7 +114,7 @@ cell_there kind all left page place sheet h t within =
     let k : (64 * page + place) % 64 ≡ place = omega arith in
     cell_of-ordered kind (64 * page + place) all h ∙ (λ i. cell_on (sheet_at all (p i)) (k i)) ∙ ap (λ (s : Option SheetCells). cell_on s place) t.here
 
-pub changes_fit : (kind : Kind) (slots : ℕ) (olds news olds' news' : Sheets) (items : Cells) (a b : List (ℕ × Cell)) (page : ℕ) (before now : Option SheetCells) → Left kind slots olds news items a b →
+pub changes_fit : (kind : Kind) (slots : ℕ) (olds news olds' news' : Sheets) (items : Cells) (a b : List (ℕ × Cell)) (page : ℕ) (before now : Option SheetCells) → StillToCome kind slots olds news items a b →
     Some page ≡ lesser_of (first_page news) (first_page olds) → TakesSheet olds page before olds' → TakesSheet news page now news' → ChangesFit slots page before now
 changes_fit kind slots olds news olds' news' items a b page before now h least old new = λ place within differ.
     let t = taken kind olds olds' page before h.old (least-right (first_page news) (first_page olds) page least) old in
@@ -128,9 +128,9 @@ changes_fit kind slots olds news olds' news' items a b page before now h least o
           let y = (same_cell-Decides (cell_on now place) Na).1 (sym (cell_there kind news news' page place now h.new u within) ∙ none) in cc)
     ] refl
 
-pub left_next : (kind : Kind) (slots : ℕ) (olds news olds' news' : Sheets) (items items' : Cells) (a b : List (ℕ × Cell)) (page : ℕ) (before now : Option SheetCells) → Left kind slots olds news items a b →
+pub left_next : (kind : Kind) (slots : ℕ) (olds news olds' news' : Sheets) (items items' : Cells) (a b : List (ℕ × Cell)) (page : ℕ) (before now : Option SheetCells) → StillToCome kind slots olds news items a b →
     Some page ≡ lesser_of (first_page news) (first_page olds) → TakesSheet olds page before olds' → TakesSheet news page now news' →
-    items' ≡ items ++ with_coords slots (changes_on before now (64 * page) 0 64) → Left kind slots olds' news' items' a b
+    items' ≡ items ++ with_coords slots (changes_on before now (64 * page) 0 64) → StillToCome kind slots olds' news' items' a b
 left_next kind slots olds news olds' news' items items' a b page before now h least old new push =
     let t = taken kind olds olds' page before h.old (least-right (first_page news) (first_page olds) page least) old in
     let u = taken kind news news' page now h.new (least-left (first_page news) (first_page olds) page least) new in
@@ -152,7 +152,7 @@ left_next kind slots olds news olds' news' items items' a b page before now h le
     coords-append slots [] ys = refl
     coords-append slots (x ∷ xs) ys = ap (λ (r : Cells). (unpacked slots x.0, x.1) ∷ r) (coords-append slots xs ys)
 
-pub left_none : (kind : Kind) (slots : ℕ) (olds news : Sheets) (items : Cells) (a b : List (ℕ × Cell)) → Left kind slots olds news items a b → None ≡ lesser_of (first_page news) (first_page olds) → items ≡ with_coords slots (difference_of a b)
+pub left_none : (kind : Kind) (slots : ℕ) (olds news : Sheets) (items : Cells) (a b : List (ℕ × Cell)) → StillToCome kind slots olds news items a b → None ≡ lesser_of (first_page news) (first_page olds) → items ≡ with_coords slots (difference_of a b)
 left_none kind slots [] [] items a b h none = sym (append-nil items) ∙ h.done
 left_none kind slots (x ∷ xs) [] items a b h none = cc
 left_none kind slots [] (y ∷ ys) items a b h none = cc
@@ -187,12 +187,12 @@ is_same false e = cc
 
 pub left_begin : (kind kind' : Kind) (slots : ℕ) (olds news olds' news' : Sheets) (items : Cells) (a b : NumberedMap) → olds' ≡ olds → news' ≡ news → items ≡ [] →
     AreSheets kind news → AreSheets kind' olds → shown kind news ≡ b → shown kind' olds ≡ a → b.kind ≡ a.kind →
-    AreNumbersOf slots a.cells → AreNumbersOf slots b.cells → Left b.kind slots olds' news' items a.cells b.cells
+    AreNumbersOf slots a.cells → AreNumbersOf slots b.cells → StillToCome b.kind slots olds' news' items a.cells b.cells
 left_begin kind kind' slots olds news olds' news' items a b e f none h g is was same under over =
-    let first : Left b.kind slots olds news [] a.cells b.cells = subst (λ (k : Kind). Left k slots olds news [] a.cells b.cells) (ap (λ (m : NumberedMap). m.kind) is) (left_first kind kind' slots olds news a b h g is was same under over) in
-    let second : Left b.kind slots olds' news [] a.cells b.cells = subst (λ (s : Sheets). Left b.kind slots s news [] a.cells b.cells) (sym e) first in
-    let third : Left b.kind slots olds' news' [] a.cells b.cells = subst (λ (s : Sheets). Left b.kind slots olds' s [] a.cells b.cells) (sym f) second in
-    subst (λ (xs : Cells). Left b.kind slots olds' news' xs a.cells b.cells) (sym none) third
+    let first : StillToCome b.kind slots olds news [] a.cells b.cells = subst (λ (k : Kind). StillToCome k slots olds news [] a.cells b.cells) (ap (λ (m : NumberedMap). m.kind) is) (left_first kind kind' slots olds news a b h g is was same under over) in
+    let second : StillToCome b.kind slots olds' news [] a.cells b.cells = subst (λ (s : Sheets). StillToCome b.kind slots s news [] a.cells b.cells) (sym e) first in
+    let third : StillToCome b.kind slots olds' news' [] a.cells b.cells = subst (λ (s : Sheets). StillToCome b.kind slots olds' s [] a.cells b.cells) (sym f) second in
+    subst (λ (xs : Cells). StillToCome b.kind slots olds' news' xs a.cells b.cells) (sym none) third
 
 pub lesser_is : (page : Option ℕ) (x y x' y' : Option ℕ) → page ≡ lesser_of x y → x ≡ x' → y ≡ y' → page ≡ lesser_of x' y'
 lesser_is page x y x' y' e f g = e ∙ (λ i. lesser_of (f i) (g i))

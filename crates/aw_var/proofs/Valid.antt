@@ -1,5 +1,5 @@
 -- What holds of every variable.
-use Rattle.std.proofs.Common.{◌≡◌, ℕ, suc, ◌+◌, ◌*◌, ◌^◌, ◌<◌, Bool, true, false, cond, not, ◌&&◌, ◌==◌, List, [], ◌∷◌, length, refl, sym, ap, subst, ◌∙◌, arith}
+use Rattle.std.proofs.Common.{◌≡◌, ℕ, ◌+◌, ◌*◌, ◌^◌, ◌<◌, Bool, true, false, cond, not, ◌&&◌, ◌==◌, List, [], ◌∷◌, length, refl, sym, ap, subst, ◌∙◌}
 use Rattle.std.specs.Prelude.{nat_lt}
 use Rattle.std.specs.List.{list_all}
 use Rattle.std.specs.Ordering.{nat_cmp, is_lt}
@@ -15,7 +15,7 @@ use Rattle.aw_var.specs.Variable.{Contents, IsVariable, is_pair_of}
 use Rattle.aw_var.specs.inside.NumberedMap.{NumberedMap, IsNumberedMap}
 use Rattle.aw_var.specs.inside.Sheets.{Sheets, numbered, all_numbered, AreSheets}
 use Rattle.aw_var.specs.inside.Unpacking.{unpacked, with_coords, AreNumbersOf}
-use Rattle.aw_var.proofs.callers.FiniteMaps.{both_true, and_true}
+use Rattle.aw_var.proofs.callers.FiniteMaps.{both_true, and_true, slots_all}
 use Rattle.aw_var.proofs.Numbers.{list_all-append}
 use Rattle.aw_var.proofs.Sheets.{EachSheet, EachSheet-AreSheets, IsMapBy-all}
 use Rattle.aw_var.proofs.Puts.{shown}
@@ -55,10 +55,6 @@ is_sorted-coords slots (e ∷ es) all =
 present-coords : (slots : ℕ) (cells : List (ℕ × Cell)) → list_all (λ pair. not (is_na pair.1)) (with_coords slots cells) ≡ list_all (λ pair. not (is_na pair.1)) cells
 present-coords slots [] = refl
 present-coords slots (e ∷ es) = ap (λ b. not (is_na e.1) && b) (present-coords slots es)
-
-slots_all : (slots : List ℕ) → AreSlots slots → list_all (λ slot. nat_lt slot 65536) slots ≡ true
-slots_all [] each = refl
-slots_all (x ∷ xs) each = and_true (nat_lt x 65536) (list_all (λ slot. nat_lt slot 65536) xs) ((Decides-ltb x 65536).1 (each 0 0 (omega arith))) (slots_all xs (λ k d h. each (suc k) d (omega arith)))
 
 pairs-coords : (slots : ℕ) (kind : Kind) (cells : List (ℕ × Cell)) → below slots cells ≡ true → list_all (λ pair. is_of_kind kind pair.1) cells ≡ true → list_all (is_pair_of slots kind) (with_coords slots cells) ≡ true
 pairs-coords slots kind [] all fits = refl

@@ -8,7 +8,7 @@ use Rattle.dml_forms.specs.Forms.{Form, Derives, Starts}
 use Rattle.dml_forms.specs.Deciding.{Fit}
 use Rattle.dml_forms.specs.Refusing.{IsKeptByFronts, Accepted, Begun, RefusedAt}
 use Rattle.dml_forms.specs.inside.Front.{IsLongestFront}
-use Rattle.dml_forms.specs.inside.Reading.{Outcome, found, fault, left, reading}
+use Rattle.dml_forms.specs.inside.LookAhead.{Outcome, found, fault, left, reading}
 use Rattle.dml_forms.proofs.Parts.{derived_starts, started_is_read, read_is_derived, fault_is_started, whole_is_read, one_value}
 use Rattle.dml_forms.proofs.Found.{one_way}
 use Rattle.dml_forms.proofs.Fronts.{fronts_start}

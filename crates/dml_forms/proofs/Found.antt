@@ -3,7 +3,7 @@ use Rattle.std.specs.Prelude.{ℕ, ◌≡◌, ◌⊎◌, Bool, true, false, cond
 use Rattle.std.proofs.Common.{refl, sym, ap, ◌∙◌, append_assoc, inl, inr}
 use Rattle.dml_forms.specs.Forms.{Form, ended, token, part, last, either, but, among, goes, In, Begins}
 use Rattle.dml_forms.specs.Deciding.{begins}
-use Rattle.dml_forms.specs.inside.Reading.{Outcome, found, fault, and_then, parse}
+use Rattle.dml_forms.specs.inside.LookAhead.{Outcome, found, fault, and_then, parse}
 
 -- ---- tests
 

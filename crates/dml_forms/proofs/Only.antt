@@ -4,7 +4,7 @@ use Rattle.std.proofs.Common.{refl, sym, ap, ◌∙◌, append_assoc, append-nil
 use Rattle.std.proofs.lemmas.Bool.{and_parts}
 use Rattle.dml_forms.specs.Forms.{Form, ended, token, part, last, either, but, among, goes, In, Begins}
 use Rattle.dml_forms.specs.Deciding.{none_among, each_among, follows, without, begins, empty, Fits}
-use Rattle.dml_forms.specs.inside.Reading.{Outcome, found, fault, and_then, left, parse}
+use Rattle.dml_forms.specs.inside.LookAhead.{Outcome, found, fault, and_then, left, parse}
 use Rattle.dml_forms.proofs.Found.{one_way}
 
 -- ---- sets of sorts

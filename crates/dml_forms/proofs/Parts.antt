@@ -3,7 +3,7 @@ use Rattle.std.specs.Prelude.{ℕ, zero, suc, ◌≡◌, ◌+◌, ◌*◌, ◌<�
 use Rattle.std.proofs.Common.{refl, sym, ap, ◌∙◌, append_assoc, append-nil, arith, inl, inr, ltb-true, length-append}
 use Rattle.dml_forms.specs.Forms.{Form, ended, token, part, last, either, but, among, goes, In, Begins, Derives, Starts}
 use Rattle.dml_forms.specs.Deciding.{begins, empty, Fits, Ranked, Fit}
-use Rattle.dml_forms.specs.inside.Reading.{Outcome, found, fault, and_then, left, parse, parse_by, reading}
+use Rattle.dml_forms.specs.inside.LookAhead.{Outcome, found, fault, and_then, left, parse, parse_by, reading}
 use Rattle.dml_forms.proofs.Found.{one_way, found_form, fault_form, begins_nothing}
 use Rattle.dml_forms.proofs.Only.{implied, among_each, in_begins, in_empty, begun_begins, form_found, shrinks_form, begun_read}
 

@@ -1,3 +1,3 @@
 -- What only the reading functions above cite.
-pub mod Reading
 pub mod Front
+pub mod LookAhead

@@ -119,7 +119,7 @@ fn appended(alloc: Global) -> Result<Option<MemDisk>, NoMemory> {
     if journal.append(b"abc").is_err() {
         return Ok(None);
     }
-    journal.leaves();
+    journal.recall_invariant();
     Ok(Some(journal.into_disk()))
 }
 

@@ -72,6 +72,14 @@ module _ (bodies : Bodies Body Change) where
 
 -- ---- a commit
 
+-- no step changes the definitions
+pub definitions-after : (w : Workspace) (entry : Entry) (reply : Reply) → (workspace_after w entry reply).definitions ≡ w.definitions
+definitions-after w (Acquire who keep fresh same) (Acquired latest) = refl
+definitions-after w (Commit who changes leave) Committed = refl
+definitions-after w (Release who listed) Released = refl
+definitions-after w (Detach who) Detached = refl
+definitions-after w _ _ = refl
+
 module _ (definitions : List Def) (numbers : ℕ → ℕ) (firsts : ℕ → Body) where
   abbrev bodies : Bodies Body Change
   bodies = bodies_from definitions numbers firsts
@@ -112,14 +120,6 @@ module _ (definitions : List Def) (numbers : ℕ → ℕ) (firsts : ℕ → Body
   standing-workspace_after w (Release who listed) Released = standing-given_up bodies w who listed
   standing-workspace_after w (Detach who) Detached = standing-all_given_up bodies w who
   standing-workspace_after w _ _ = refl
-
-  -- no step changes the definitions
-  definitions-after : (w : Workspace) (entry : Entry) (reply : Reply) → (workspace_after w entry reply).definitions ≡ w.definitions
-  definitions-after w (Acquire who keep fresh same) (Acquired latest) = refl
-  definitions-after w (Commit who changes leave) Committed = refl
-  definitions-after w (Release who listed) Released = refl
-  definitions-after w (Detach who) Detached = refl
-  definitions-after w _ _ = refl
 
   abbrev table_so : List Def → List (Option (Object Body)) → Table
   table_so defs objects = record { definitions = defs; objects = objects }

@@ -1,13 +1,11 @@
 -- The objects of a catalogue with their first generations.
-use Rattle.std.specs.Option.{option_map, option_or, option_and_then, unwrap_or}
-use Rattle.std.proofs.Common.{◌≡◌, ◌∙◌, ℕ, zero, suc, ◌+◌, ◌≤◌, ◌<◌, Bool, true, false, List, [], ◌∷◌, ◌++◌, length, map, Option, Some, None, refl, sym, ap, ap₂, arith, slice_get, get_or, drop, drop_of_length-le, nat_le, leb-false, append_assoc, append-nil, length-append, if◌then◌else◌}
+use Rattle.std.specs.Option.{option_map, option_and_then, unwrap_or}
+use Rattle.std.proofs.Common.{◌≡◌, ◌∙◌, ℕ, zero, suc, ◌+◌, ◌≤◌, ◌<◌, List, [], ◌∷◌, ◌++◌, length, map, Option, Some, None, refl, sym, ap, ap₂, arith, slice_get, get_or, drop, drop_of_length-le, append_assoc, append-nil, if◌then◌else◌}
 use Rattle.std.proofs.lemmas.List.{drop_more}
 use Rattle.std.proofs.lemmas.Option.{slice_get-get_or}
 use Rattle.aw_schema.specs.declared.definition.Def.{Def}
 use Rattle.aw_schema.specs.declared.definition.DefKind.{DefKind}
 use Rattle.aw_schema.specs.declared.definition.DefKind.TheVariants.{Dimension, Relation, Valueset, Variable, Formula, Program, Aggmap}
-use Rattle.aw_schema.specs.declared.fault.SchemaFault.TheVariants.{TooMany}
-use Rattle.aw_schema.specs.Checking.{AreAccepted, AreAcceptedAfter, refusal, repeated_name, too_many, wrong_objects}
 use Rattle.aw_schema.specs.Definitions.{is_kept}
 use Rattle.aw_body.specs.declared.body.Body.{Body}
 use Rattle.aw_body.specs.declared.body.Body.TheVariants.{Set}
@@ -17,33 +15,7 @@ use Rattle.mv_core.specs.declared.object.Object.{Object}
 use Rattle.mv_core.specs.Objects.{IsObjectOf, AreObjectsOf}
 use Rattle.mv_core.specs.Workspace.{standing_from, standing, opened}
 use Rattle.mv_core.specs.inside.Opening.{first_object, first_object_of}
-use Rattle.mv_core.proofs.Making.{or-none}
-
--- ---- a catalogue has 4,096 definitions at most
-
-room-if : (full : Bool) → (if full then Some TooMany else None) ≡ None → full ≡ false
-room-if true none = cc
-room-if false none = refl
-
-accepted-room : (before : List Def) (def : Def) → refusal before def ≡ None → length before < 4096
-accepted-room before def free =
-    let rest = (or-none (repeated_name before def.name) (option_or (too_many before) (wrong_objects before def.kind)) free).1 in
-    let room = (or-none (too_many before) (wrong_objects before def.kind) rest).0 in
-    let below = leb-false 4096 (length before) (room-if (nat_le 4096 (length before)) room) in
-    omega (arith, below)
-
-accepted-after : (before definitions : List Def) → length before ≤ 4096 → AreAcceptedAfter before definitions → length before + length definitions ≤ 4096
-accepted-after before [] room accepted = omega (arith, room)
-accepted-after before (def ∷ definitions) room accepted =
-    let below = accepted-room before def accepted.1 in
-    let longer : length (before ++ def ∷ []) ≡ length before + 1 = omega (arith, length-append before (def ∷ [])) in
-    let rest = accepted-after (before ++ def ∷ []) definitions (omega (arith, below, longer)) accepted.2 in
-    omega (arith, rest, longer)
-
-pub accepted-most : (definitions : List Def) → AreAccepted definitions → length definitions ≤ 4096
-accepted-most definitions accepted =
-    let most : 0 + length definitions ≤ 4096 = accepted-after [] definitions (omega arith) accepted in
-    omega (arith, most)
+use Rattle.aw_schema.proofs.callers.AcceptedCatalogues.{or_parts}
 
 -- ---- the definitions, one after the other
 

@@ -1,7 +1,7 @@
 -- The generations that changes make, where nothing blocks them.
 use Rattle.std.specs.Prelude.{All}
 use Rattle.std.specs.List.{cons_option}
-use Rattle.std.specs.Option.{option_map, option_or, is_none}
+use Rattle.std.specs.Option.{option_map, is_none}
 use Rattle.std.proofs.Common.{◌≡◌, ◌∙◌, ℕ, zero, suc, ◌+◌, ◌==◌, ◌&&◌, Bool, true, false, cond, List, [], ◌∷◌, find, Option, Some, None, refl, sym, ap, ap₂, subst, arith, slice_get, nat_le, leb-false, eqb-true}
 use Rattle.std.proofs.lemmas.Bool.{and_parts}
 use Rattle.std.proofs.lemmas.List.Elements.{All-nil, All-cons}
@@ -30,10 +30,6 @@ Objects = List (Option (Object Body))
 pub cond-none : {A : Type 0} (b : Bool) (x : Option A) (y : A) → cond b x (Some y) ≡ None → (b ≡ true) × (x ≡ None)
 cond-none true x y none = (refl, none)
 cond-none false x y none = cc
-
-pub or-none : {A : Type 0} (one other : Option A) → option_or one other ≡ None → (one ≡ None) × (other ≡ None)
-or-none None other none = (refl, none)
-or-none (Some x) other none = cc
 
 find-none : {A B : Type 0} (f : A → B) (b : Bool) (x : A) (rest : Option A) → option_map f (cond b (Some x) rest) ≡ None → (b ≡ false) × (option_map f rest ≡ None)
 find-none f true x rest none = cc

@@ -23,7 +23,8 @@ use Rattle.mv_core.specs.Replies.{fits_object, may_make, first_refused, first_wo
 use Rattle.mv_core.specs.SharedStep.{writes}
 use Rattle.mv_core.specs.inside.Making.{made_by, made_of, IsMakable}
 use Rattle.mv_core.proofs.Blocking.{acquire-is, commit-is}
-use Rattle.mv_core.proofs.Making.{cond-none, or-none, fits-made, makable, forms-made, renewed-committed}
+use Rattle.mv_core.proofs.Making.{cond-none, fits-made, makable, forms-made, renewed-committed}
+use Rattle.aw_schema.proofs.callers.AcceptedCatalogues.{or_parts}
 
 abbrev Objects : Type 0
 Objects = List (Option (Object Body))
@@ -91,7 +92,7 @@ commit-free definitions objects who changes leave free =
     let refused = first_refused (may_make definitions objects (Some who)) 0 changes in
     let out = first_not_own objects who leave in
     let parts = free-parts (option_or refused out) (first_worn objects changes) free in
-    ((or-none refused out parts.0).0, parts.1)
+    ((or_parts refused out parts.0).0, parts.1)
 
 pub commit-makable : (definitions : List Def) (objects : Objects) (who : ℕ) (changes : List Change) (leave : List ℕ) → AreObjectsOf definitions objects → None ≡ commit_block definitions objects who changes leave → All (IsMakable objects) changes
 commit-makable definitions objects who changes leave are free =

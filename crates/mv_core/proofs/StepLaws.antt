@@ -26,8 +26,9 @@ use Rattle.mv_core.specs.Replies.{newer, block, seen_block, fresh_block, acquire
 use Rattle.mv_core.specs.SharedStep.{workspace_after}
 use Rattle.mv_core.specs.Workspace.{Workspace, object_of, standing_from, standing}
 use Rattle.mv_core.proofs.Blocking.{acquire-is, commit-is}
-use Rattle.mv_core.proofs.Making.{cond-none, or-none}
+use Rattle.mv_core.proofs.Making.{cond-none}
 use Rattle.mv_core.proofs.Prepares.{commit-free}
+use Rattle.aw_schema.proofs.callers.AcceptedCatalogues.{or_parts}
 
 abbrev Objects : Type 0
 Objects = List (Option (Object Body))
@@ -165,7 +166,7 @@ block-free objects who object seen (Some it) is free = (it, is, owner-free who o
 seen-free : (objects : Objects) (who object : ℕ) (keep : List Seen) → seen_block objects who keep ≡ None → is_listed (map (λ (seen : Seen). seen.object) keep) object ≡ true → IsFree objects who object
 seen-free objects who object [] free listed = cc
 seen-free objects who object (seen ∷ keep) free listed =
-    let parts = or-none (block who seen.object (Some seen.number) (kept_at objects seen.object)) (seen_block objects who keep) free in
+    let parts = or_parts (block who seen.object (Some seen.number) (kept_at objects seen.object)) (seen_block objects who keep) free in
     step (seen.object == object) refl (block-free objects who seen.object (Some seen.number) (kept_at objects seen.object) refl parts.0) (seen-free objects who object keep parts.1) listed
   where
     step : (same : Bool) → (seen.object == object) ≡ same → IsFree objects who seen.object → (is_listed (map (λ (one : Seen). one.object) keep) object ≡ true → IsFree objects who object) → (same || is_listed (map (λ (one : Seen). one.object) keep) object) ≡ true → IsFree objects who object
@@ -175,7 +176,7 @@ seen-free objects who object (seen ∷ keep) free listed =
 fresh-free : (objects : Objects) (who object : ℕ) (fresh : List ℕ) → fresh_block objects who fresh ≡ None → is_listed fresh object ≡ true → IsFree objects who object
 fresh-free objects who object [] free listed = cc
 fresh-free objects who object (one ∷ fresh) free listed =
-    let parts = or-none (block who one None (kept_at objects one)) (fresh_block objects who fresh) free in
+    let parts = or_parts (block who one None (kept_at objects one)) (fresh_block objects who fresh) free in
     step (one == object) refl (block-free objects who one None (kept_at objects one) refl parts.0) (fresh-free objects who object fresh parts.1) listed
   where
     step : (same : Bool) → (one == object) ≡ same → IsFree objects who one → (is_listed fresh object ≡ true → IsFree objects who object) → (same || is_listed fresh object) ≡ true → IsFree objects who object
@@ -188,8 +189,8 @@ either-free objects who object false asked first second listed = second listed
 
 asked-free : (objects : Objects) (who : ℕ) (keep : List Seen) (fresh : List ℕ) (same : List Seen) (object : ℕ) → acquire_block objects who keep fresh same ≡ None → is_listed (taken_of keep fresh) object ≡ true → IsFree objects who object
 asked-free objects who keep fresh same object free listed =
-    let first = or-none (seen_block objects who keep) (option_or (fresh_block objects who fresh) (seen_block objects who same)) free in
-    let second = or-none (fresh_block objects who fresh) (seen_block objects who same) first.1 in
+    let first = or_parts (seen_block objects who keep) (option_or (fresh_block objects who fresh) (seen_block objects who same)) free in
+    let second = or_parts (fresh_block objects who fresh) (seen_block objects who same) first.1 in
     either-free objects who object (is_listed (map (λ (seen : Seen). seen.object) keep) object) (is_listed fresh object) (seen-free objects who object keep first.0) (fresh-free objects who object fresh second.0)
     (sym (list_any-append (λ one. one == object) (map (λ (seen : Seen). seen.object) keep) fresh) ∙ listed)
 

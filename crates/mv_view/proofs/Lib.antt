@@ -5,7 +5,7 @@ pub mod Placing
 pub mod Written
 pub mod Renewing
 pub mod Owning
-pub mod Keeping
 pub mod Listing
 pub mod Paging
 pub mod callers
+pub mod ChangedPlaces

@@ -12,7 +12,7 @@ use Rattle.mv_view.specs.Rules as rule
 use Rattle.mv_view.specs.declared.fault.ViewFault.{ViewFault}
 use Rattle.mv_view.specs.inside.Places.{IsListed}
 use Rattle.mv_view.proofs.callers.Each.{object_in-each, only-itself}
-use Rattle.mv_view.proofs.Keeping.{IsListed-same, owned-cond, seen-written}
+use Rattle.mv_view.proofs.ChangedPlaces.{IsListed-same, owned-cond, seen-written}
 
 -- the owned objects stay listed, whatever the answer
 pub IsListed-written : (result : Result (Unit {0}) ViewFault) (objects after : List (Option ObjectView)) (those : List ℕ) (room object : ℕ) (cells : Cells)

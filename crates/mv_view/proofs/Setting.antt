@@ -49,7 +49,7 @@ cell_at-kind contents key valid = kind-found contents.slots contents.kind conten
 
 -- ---- setting
 
-same-key : (one other : List ℕ) → by_slots one other ≡ Equal → one ≡ other
+pub same-key : (one other : List ℕ) → by_slots one other ≡ Equal → one ≡ other
 same-key = slice_cmp-IsAntisymmetric nat_cmp-IsAntisymmetric
 
 not-false : (b : Truth) → not b ≡ true → b ≡ false

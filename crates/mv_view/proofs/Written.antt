@@ -4,7 +4,7 @@ use Rattle.std.specs.Option.{option_map, IsSomeAnd}
 use Rattle.std.specs.Ordering.{eq_by_cmp}
 use Rattle.std.specs.Cmp.{Equal-is, both_ways, tied_itself}
 use Rattle.std.specs.Cmp.Lexicographic.{nat_list_cmp_total}
-use Rattle.std.specs.FinMap.{find, put, nat_cmp-IsAntisymmetric, slice_cmp-IsAntisymmetric}
+use Rattle.std.specs.FinMap.{find, put}
 use Rattle.std.specs.FinMap.Entries.{where_key, find-put, find-where_key}
 use Rattle.std.specs.declared.cmp.Ordering.TheVariants.{Equal}
 use Rattle.std.proofs.Common.{◌∙◌, ap, sym, refl, subst, arith}
@@ -26,9 +26,7 @@ use Rattle.mv_view.specs.Rules as rule
 use Rattle.mv_view.specs.Laws.{last_at, WritesCells}
 use Rattle.mv_view.proofs.callers.Each.{object_in-each, only-itself, only-other}
 use Rattle.mv_view.proofs.callers.Committing.{some-seen}
-
-same-key : (one other : List ℕ) → by_slots one other ≡ Equal → one ≡ other
-same-key = slice_cmp-IsAntisymmetric nat_cmp-IsAntisymmetric
+use Rattle.mv_view.proofs.Setting.{same-key}
 
 ties-back : (one other : List ℕ) → eq_by_cmp by_slots one other ≡ true → eq_by_cmp by_slots other one ≡ true
 ties-back one other tied =

@@ -5,3 +5,4 @@ pub mod Each
 pub mod Fitting
 pub mod Forms
 pub mod Recording
+pub mod OwnedObjects

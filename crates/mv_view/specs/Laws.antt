@@ -3,7 +3,7 @@ use Rattle.std.specs.Prelude.{ℕ, ◌≡◌, ◌≢◌, ◌↔◌, ◌<◌, ◌
 use Rattle.std.specs.Option.{IsSomeAnd}
 use Rattle.std.specs.Ordering.{eq_by_cmp}
 use Rattle.aw_cell.specs.declared.cell.Cell.{Cell}
-use Rattle.aw_dim.specs.Values.{Values}
+use Rattle.aw_dim.specs.DimensionState.{DimensionState}
 use Rattle.aw_schema.specs.declared.definition.Def.{Def}
 use Rattle.aw_var.specs.CellMap.{Cells, by_slots}
 use Rattle.aw_body.specs.declared.body.Body.{Body}
@@ -28,7 +28,7 @@ use Rattle.mv_view.specs.Recording.{AreRecordable}
 pub record OwnCallsFit (definitions : List Def) (bodies : Bodies Body Change) (history : List (List Change)) (owners : Owners) (view : ViewState) : Type 0 where
   pub written : (object : ℕ) (cells : Cells) → IsSomeAnd (object_of view object) (λ found. AreCellsOf found.kind cells) → Fits definitions bodies history owners (rule.written view object cells)
   pub selected : (object : ℕ) (slots : List ℕ) → IsSomeAnd (object_of view object) (λ found. IsBodyOf found.kind (Set slots)) → Fits definitions bodies history owners (rule.selected view object slots)
-  pub maintained : (object : ℕ) (values : Values) → IsSomeAnd (object_of view object) (λ found. found.owned ≡ true) → Fits definitions bodies history owners (rule.maintained view object values)
+  pub maintained : (object : ℕ) (values : DimensionState) → IsSomeAnd (object_of view object) (λ found. found.owned ≡ true) → Fits definitions bodies history owners (rule.maintained view object values)
   pub updated : (objects : List ℕ) → AreOwned view objects → Fits definitions bodies history owners (rule.updated view objects)
   pub reverted : (objects : List ℕ) → Fits definitions bodies history owners (rule.reverted view objects)
 

@@ -3,7 +3,7 @@ use Rattle.std.specs.Prelude.{ℕ, ◌+◌, ◌==◌, Bool, true, false, cond, m
 use Rattle.std.specs.Option.{option_map}
 use Rattle.aw_cell.specs.declared.cell.Cell.{Cell}
 use Rattle.aw_cell.specs.declared.cell.Cell.TheVariants.{Na, Slot}
-use Rattle.aw_dim.specs.Values.{Values, name_of}
+use Rattle.aw_dim.specs.DimensionState.{DimensionState, name_of}
 use Rattle.aw_schema.specs.declared.definition.Def.{Def}
 use Rattle.aw_schema.specs.declared.definition.DefKind.{DefKind}
 use Rattle.aw_schema.specs.declared.definition.DefKind.TheVariants.{Relation}
@@ -117,10 +117,10 @@ abbrev pub selected : ViewState → ℕ → List ℕ → ViewState
 selected view object slots = each (only object (with_slots slots)) view
 
 -- MAINTAIN changes the staged and the private body of a dimension together.
-abbrev pub with_values : Values → ObjectView → ObjectView
+abbrev pub with_values : DimensionState → ObjectView → ObjectView
 with_values values object = record object { staged = Dim values; private = Dim values }
 
-abbrev pub maintained : ViewState → ℕ → Values → ViewState
+abbrev pub maintained : ViewState → ℕ → DimensionState → ViewState
 maintained view object values = each (only object (with_values values)) view
 
 -- ---- staging

@@ -8,8 +8,8 @@ use Rattle.aw_codec.specs.declared.record.Decoded.{Decoded}
 use Rattle.mv_core.specs.declared.object.Object.{Object}
 use Rattle.mv_core.specs.Lookups.{kept_at}
 use Rattle.mv_core.specs.Workspace.{Table}
-use Rattle.aw_store.specs.Replay.{definitions_of, workspace_of, stood_by}
-use Rattle.aw_store.proofs.callers.Standing.{length-standing}
+use Rattle.aw_store.specs.StoredRecords.{definitions_of, workspace_of, stood_by}
+use Rattle.aw_store.proofs.callers.StandingObjects.{length-standing}
 use Rattle.aw_io.specs.Known.{Grows, GrowsByFront}
 use Rattle.script_meaning.specs.Dump.{dumped_kept, dumped}
 use Rattle.script_disk.proofs.Written.{HasPut, put_more, put_front}

@@ -2,8 +2,7 @@
 use Rattle.std.proofs.Common.{◌≡◌, inl, inr, ⊎_elim, ℕ, List, [], Option, None, Some, IfSome, IsTrue, refl, ap, arith}
 use Rattle.aw_codec.specs.declared.record.Decoded.{Decoded}
 use Rattle.aw_io.specs.Known.{Grows, GrowsByFront}
-use Rattle.aw_store.specs.Images.{AreRecords, HoldsRecords, LeftRecords}
-use Rattle.aw_store.specs.Replay.{can_replay, stood_by}
+use Rattle.aw_store.specs.StoredRecords.{AreRecords, HoldsRecords, LeftRecords, can_replay, stood_by}
 use Rattle.mv_core.specs.Workspace.{Table}
 use Rattle.script_meaning.specs.Dump.{dumped_table}
 use Rattle.script_disk.specs.Dumped.{IsDumpOf, EndsDump}

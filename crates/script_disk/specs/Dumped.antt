@@ -4,11 +4,9 @@ use Rattle.aw_codec.specs.declared.record.Decoded.{Decoded}
 use Rattle.aw_io.specs.Known.{Grows, GrowsByFront}
 use Rattle.aw_journal.specs.Format.{IsUnformatted}
 use Rattle.aw_journal.specs.Passed.{Passed}
-use Rattle.aw_store.specs.Images.{HoldsRecords, IsDamaged}
+use Rattle.aw_store.specs.StoredRecords.{HoldsRecords, IsDamaged, CanBeOpened}
 use Rattle.script_meaning.specs.Dump.{dump_text}
-use Rattle.script_meaning.specs.Matching.{CanBeOpened}
-use Rattle.script_disk.specs.Opened.{CutOff}
-use Rattle.script_disk.specs.Texts.{not_a_workspace, damaged}
+use Rattle.script_disk.specs.WhyUnopened.{CutOff, not_a_workspace, damaged}
 
 -- the text is the dump of the records that the content holds, where it is told, and that a crash now leaves
 pub record IsDumpOf (content : Option (List ℕ)) (images : List ℕ → Type 0) (text : List ℕ) : Type 0 where

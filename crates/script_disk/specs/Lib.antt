@@ -1,5 +1,4 @@
 pub mod Dumped
-pub mod Formatted
 pub mod Made
-pub mod Opened
 pub mod Texts
+pub mod WhyUnopened

@@ -4,7 +4,7 @@ use Rattle.aw_disk.specs.Calls.{Written}
 use Rattle.aw_disk.specs.Images.{TornFrom}
 use Rattle.aw_io.specs.Known.{Grows, GrowsByFront}
 use Rattle.aw_journal.specs.Format.{head, IsFormatted}
-use Rattle.aw_journal.specs.Left.{AllHold}
+use Rattle.aw_journal.specs.CrashPayloads.{AllHold}
 use Rattle.aw_journal.specs.Passed.{Passed}
 use Rattle.aw_journal.specs.Undisturbed.{Undisturbed}
 use Rattle.script_disk.specs.Texts.{done, already_a_workspace}

@@ -1,15 +1,6 @@
 -- The lines that are written of a workspace when it is opened or made.
 use Rattle.std.specs.Prelude.{ℕ, ◌≡◌, ◌⊎◌, List, [], ◌∷◌, ◌++◌, codes, Option}
-use Rattle.std.specs.Fmt.{decimal}
 use Rattle.aw_io.specs.Known.{Grows, GrowsByFront}
-
--- a disk that is no workspace
-abbrev pub not_a_workspace : List ℕ
-not_a_workspace = codes "NOT A WORKSPACE" ++ 10 ∷ []
-
--- a workspace that is damaged at the gate of this offset
-abbrev pub damaged : ℕ → List ℕ
-damaged offset = codes "DAMAGED " ++ decimal offset ++ 10 ∷ []
 
 -- a workspace that isn't made again
 abbrev pub already_a_workspace : List ℕ

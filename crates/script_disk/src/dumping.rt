@@ -4,8 +4,7 @@ ghost use Rattle.aw_lists.specs.Faults.{Rose};
 ghost use Rattle.aw_journal.specs.Passed.{Passed};
 ghost use Rattle.script_meaning.specs.Dump.{dumped_table};
 ghost use Rattle.script_disk.specs.Dumped.{EndsDump, Dumps, CompletesDump};
-ghost use Rattle.script_disk.specs.Formatted.{AreFormatted};
-ghost use Rattle.script_disk.specs.Opened.{ExplainsContent};
+ghost use Rattle.script_disk.specs.WhyUnopened.{AreFormatted, ExplainsContent};
 
 use crate::objects::write_objects;
 use crate::opening::open;
@@ -22,7 +21,7 @@ fn write_dump<K: Sink, D: Disk>(store: &Store<D>, out: &mut K) -> Result<(), Sin
     ensures later { K.faults out.old ≤ K.faults out.new }
     ensures cause { OnErr result (Rose (K.faults out.old) (K.faults out.new)) }
 {
-    store.stands();
+    store.recall_invariant();
     match store.catalogue() {
         Some(catalogue) => write_objects(catalogue, store, out),
         None => Ok(()),
@@ -49,7 +48,7 @@ fn dump_disk<'a, K: Sink, D: Disk>(disk: D, devices: Devices<'a, K>) -> (D, (u8,
     let Devices { alloc, out } = devices;
     match open(alloc, disk, out) {
         Ok(store) => {
-            store.stands();
+            store.recall_invariant();
             let status = match write_dump(&store, out) {
                 Ok(()) => 0,
                 Err(_) => 4,

@@ -1,7 +1,7 @@
 ghost use Rattle.std.specs.Prelude.{◌≡◌, ◌≤◌, ◌+◌, ◌*◌, ◌++◌, length};
 ghost use Rattle.arrayvec.specs.ArrayVec.{array_vec_len};
 ghost use Rattle.script_meaning.specs.Dump as spec;
-ghost use Rattle.script_disk.specs.Texts.{damaged};
+ghost use Rattle.script_disk.specs.WhyUnopened.{damaged};
 
 use arrayvec::ArrayVec;
 use aw_body::Body;

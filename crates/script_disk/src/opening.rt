@@ -2,9 +2,8 @@ ghost use Rattle.std.specs.Prelude.{◌≡◌, ◌⊎◌, ◌≤◌, [], None, I
 ghost use Rattle.aw_io.specs.Known.{Grows, GrowsByFront};
 ghost use Rattle.aw_lists.specs.Faults.{Rose};
 ghost use Rattle.aw_journal.specs.Passed.{Passed};
-ghost use Rattle.aw_store.specs.Replay.{stood_by};
-ghost use Rattle.aw_store.specs.Images.{HoldsRecords};
-ghost use Rattle.script_disk.specs.Opened.{status_of, IsUnopened, Told};
+ghost use Rattle.aw_store.specs.StoredRecords.{stood_by, HoldsRecords};
+ghost use Rattle.script_disk.specs.WhyUnopened.{status_of, IsUnopened, Told};
 
 use crate::line::damaged_line;
 use aw_disk::Disk;

@@ -17,7 +17,7 @@ use Rattle.script_meaning.specs.Defining.{def_of, first_undefined, define_refusa
 use Rattle.script_meaning.specs.DefinitionAnswers.{found_as, has_room, first_other, first_repeated, IsRefused, IsAccepted, HasNoCause, AnswersDefinition}
 use Rattle.script_meaning.specs.Language.{language, HistoryDisk, HistoryWorld, form_of, defined_by, by_history}
 use Rattle.script_meaning.proofs.DefinitionCauses.{refused-there, refused-full, refused-undefined, refused-other, refused-again, accepted-none}
-use Rattle.script_meaning.proofs.Wholeness.{IsWhole}
+use Rattle.script_meaning.proofs.OneLineDefinitions.{IsWhole}
 
 module _ (coming : List Outcome) (w : HistoryWorld) (whole : IsWhole w) (text : List ℕ) where
   -- no line of it was open

@@ -21,13 +21,13 @@ use Rattle.script_world.specs.Outcomes.{Outcome, among}
 use Rattle.script_meaning.specs.Language.{kept_step, history_machine, by_history, HistoryDisk, HistoryWorld}
 use Rattle.script_meaning.specs.Transcript.{world_at}
 use Rattle.script_meaning.specs.Fit.{SharedFits}
-use Rattle.script_meaning.specs.Matching.{CanBeOpened}
+use Rattle.aw_store.specs.StoredRecords.{CanBeOpened}
 use Rattle.script_meaning.specs.Extending.{Commits, IsGranted, CommitsExtend, GrantsHaveLatest}
 use Rattle.script_meaning.proofs.Begins.{located-cases}
 use Rattle.script_meaning.proofs.DiskTurns.{unwritten_turn, done_turn, faulted_turn, Writes, turn-cases, acquire-unwritten}
 use Rattle.script_meaning.proofs.Records.{writing-grants}
 use Rattle.script_meaning.proofs.Extending.{PlainCommits, commits, acquires}
-use Rattle.script_meaning.proofs.Reached.{fits_at, found_at_number}
+use Rattle.script_meaning.proofs.ReachableWorlds.{fits_at, found_at_number}
 
 -- an ACQUIRE writes no record
 pub acquire-plain : (coming : List Outcome) (definitions : List Def) (names : List (List ℕ)) (disk : HistoryDisk) (s : Session) (name : List ℕ) → turn (by_history coming) definitions names disk s (command.Acquire name) ≡ unwritten_turn disk (turn history_machine definitions names disk.state s (command.Acquire name))

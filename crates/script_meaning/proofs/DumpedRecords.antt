@@ -1,9 +1,8 @@
 -- The dump of records that a store opens with tells what they stand for.
-use Rattle.std.specs.Prelude.{◌≡◌, ◌<◌, ◌≤◌, ◌+◌, ◌&&◌, ℕ, suc, ℤ, pos, negsuc, Bool as Truth, true, false, List, [], ◌∷◌, length, Option, Some, None, All, nat_le, slice_get, unwrap_or, if◌then◌else◌, refl}
+use Rattle.std.specs.Prelude.{◌≡◌, ◌<◌, ◌≤◌, ◌+◌, ◌&&◌, ℕ, suc, ℤ, pos, negsuc, Bool as Truth, true, false, List, [], ◌∷◌, length, Option, Some, None, All, nat_le, slice_get, unwrap_or, if◌then◌else◌, refl, FitsSigned}
 use Rattle.std.specs.List.{list_all}
 use Rattle.std.specs.Option.{option_to_list}
 use Rattle.std.specs.Int.{w32}
-use Rattle.std.specs.Prelude.{FitsSigned}
 use Rattle.std.proofs.Common.{◌∙◌, ap, sym, subst, arith, length-append}
 use Rattle.std.proofs.lemmas.Bool.{and_parts}
 use Rattle.std.proofs.lemmas.List.Elements.{All-nil, All-cons, All-head, All-tail}
@@ -27,13 +26,13 @@ use Rattle.aw_codec.specs.declared.record.Decoded.TheVariants.{Definitions, Comm
 use Rattle.aw_codec.specs.Records.{IsDefinition, IsSpelled, IsKeyedCell}
 use Rattle.mv_core.specs.Workspace as core
 use Rattle.mv_core.specs.Workspace.{Workspace}
-use Rattle.aw_store.specs.Replay.{are_replayed, are_accepted_after, are_commits_after, definitions_of, commits_of, workspace_of, stood_by}
+use Rattle.aw_store.specs.StoredRecords.{are_replayed, are_accepted_after, are_commits_after, definitions_of, commits_of, workspace_of, stood_by, CanBeOpened}
 use Rattle.script_meaning.specs.Dump.{IsSmall, IsCellTold, IsBodyTold, IsDumpable, AreDumpable, dumped, RecordsTell}
 use Rattle.script_meaning.specs.Fit.{CanBeWritten, IsKeptOf}
-use Rattle.script_meaning.specs.Matching.{CanBeOpened}
 use Rattle.script_meaning.proofs.Dumping.{dump_tells}
 use Rattle.script_meaning.proofs.KeptKinds.{if-some, here-kept}
 use Rattle.script_meaning.proofs.StoredBodies.{KeptBodies, all-at, first-kept, stored-kept}
+use Rattle.aw_store.proofs.callers.Following.{length-commits_of}
 
 -- ---- bodies that a record can hold
 
@@ -71,11 +70,6 @@ few-changes definitions object (commit ∷ history) =
     one None = omega arith
     one (Some change) = omega arith
 
-few-commits : (records : List Decoded) → length (commits_of records) ≤ length records
-few-commits [] = omega arith
-few-commits (Definitions definitions ∷ records) = omega (arith, few-commits records)
-few-commits (Commit changes ∷ records) = omega (arith, few-commits records)
-
 -- ---- the objects
 
 -- each is one that can be dumped
@@ -110,7 +104,7 @@ dumpable (Definitions definitions ∷ records) can few =
     let kinds = and_parts (are_replayed definitions) (are_accepted_after [] definitions && are_commits_after definitions [] records) can.replayable in
     let commits = (and_parts (are_accepted_after [] definitions) (are_commits_after definitions [] records) kinds.1).1 in
     let kept = stored-kept definitions records [] can.spellings.1 commits (first-kept definitions can.spellings.0) in
-    all-dumpable (workspace_of (Definitions definitions ∷ records) []) kept can.spellings.0.spelling.1 (omega (arith, few-commits records, few))
+    all-dumpable (workspace_of (Definitions definitions ∷ records) []) kept can.spellings.0.spelling.1 (omega (arith, length-commits_of records, few))
 
 pub records_tell : TextsTellApart → (one other : List Decoded) → RecordsTell one other
 records_tell told_apart one other can can' few few' same text =

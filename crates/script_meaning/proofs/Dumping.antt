@@ -16,7 +16,7 @@ use Rattle.aw_cell.specs.Laws.{TextsTellApart}
 use Rattle.aw_cell.specs.Names.{is_name, has_name_form, is_letter, is_name_byte, same_word, reserved_words}
 use Rattle.aw_cell.specs.Text.{is_text_byte}
 use Rattle.aw_lists.specs.Coord.{AreSlots}
-use Rattle.aw_dim.specs.Values.{Entry, Values, IsValueName, IsDimension}
+use Rattle.aw_dim.specs.DimensionState.{Entry, DimensionState, IsValueName, IsDimension}
 use Rattle.aw_page.specs.Fitting.{is_na, is_of_kind}
 use Rattle.aw_var.specs.CellMap.{KeyedCell, Cells}
 use Rattle.aw_var.specs.Variable.{Contents, is_pair_of}
@@ -29,6 +29,7 @@ use Rattle.aw_body.specs.declared.body.Body.TheVariants.{Dim, Rel, Set, Var}
 use Rattle.aw_body.specs.Bodies.{IsBodyOf}
 use Rattle.mv_core.specs.declared.object.Object.{Object}
 use Rattle.script_meaning.specs.Dump.{line_of, value_line, slot_line, key_text, cell_line, body_lines, counted, heading, dumped_object, dumped_kept, dumped, IsSmall, IsCellTold, AreCellsTold, IsBodyTold, IsDumpable, AreDumpable, seen_of, DumpTells}
+use Rattle.aw_body.proofs.CallerLemmas.{kept-kind}
 
 -- ---- texts without a byte
 
@@ -264,11 +265,11 @@ cells-of slots kind (pair ∷ cells) pairs present told =
     (pair-of slots kind pair parts.0 some.0 (All-head (λ (p : KeyedCell). IsCellTold p.1) pair cells told))
     (cells-of slots kind cells parts.1 some.1 (All-tail (λ (p : KeyedCell). IsCellTold p.1) pair cells told))
 
-entry-of : (values : Values) (entry : Entry) → values.next ≤ 65536 → entry.0 < values.next → IsValueName entry.1 → IsTextEntry entry
+entry-of : (values : DimensionState) (entry : Entry) → values.next ≤ 65536 → entry.0 < values.next → IsValueName entry.1 → IsTextEntry entry
 entry-of values entry most below named =
     (omega (arith, most, below), (and_parts (nat_le (length entry.1) 64) (list_all is_text_byte entry.1) named.0).1)
 
-entries-of : (values : Values) → IsDimension values → All IsTextEntry values.entries
+entries-of : (values : DimensionState) → IsDimension values → All IsTextEntry values.entries
 entries-of values is = λ k d within. entry-of values _ is.next_most (is.slots_below k d within) (is.names_are_texts k d within)
 
 -- ---- bodies
@@ -276,14 +277,14 @@ entries-of values is = λ k d within. entry-of values _ is.next_most (is.slots_b
 contents-same : (one other : Contents) → one.slots ≡ other.slots → one.kind ≡ other.kind → one.cells ≡ other.cells → one ≡ other
 contents-same one other slots kind cells = λ i. record { slots = slots i; kind = kind i; cells = cells i }
 
-values-same : (one other : Values) → one.entries ≡ other.entries → one.next ≡ other.next → one ≡ other
+values-same : (one other : DimensionState) → one.entries ≡ other.entries → one.next ≡ other.next → one ≡ other
 values-same one other entries next = λ i. record { entries = entries i; next = next i }
 
 -- a count, the end of the line, and what stands behind it
 behind-count : (n m : ℕ) (x y : List ℕ) → decimal n ++ 10 ∷ x ≡ decimal m ++ 10 ∷ y → x ≡ y
 behind-count n m x y same = (until 10 (decimal n) (decimal m) x y (decimal-free 10 n (omega arith)) (decimal-free 10 m (omega arith)) same).1
 
-dimension-tells : (one other : Values) (x y : List ℕ) → IsDimension one → IsDimension other → first x ≢ 32 → first y ≢ 32 →
+dimension-tells : (one other : DimensionState) (x y : List ℕ) → IsDimension one → IsDimension other → first x ≢ 32 → first y ≢ 32 →
     counted (Dim one) ++ 10 ∷ (body_lines (Dim one) ++ x) ≡ counted (Dim other) ++ 10 ∷ (body_lines (Dim other) ++ y) → (Dim one ≡ Dim other) × (x ≡ y)
 dimension-tells one other x y is are unblank others same =
     let n = length one.entries in
@@ -369,15 +370,6 @@ unblank (def ∷ definitions) [] are = absurd are
 unblank (def ∷ definitions) (None ∷ objects) are = unblank definitions objects are.2
 unblank (def ∷ definitions) (Some it ∷ objects) are =
     λ is. letter def.name _ are.0 (sym (ap first (object-form def.name it.number it.body (dumped definitions objects))) ∙ is)
-
-kept-kind : (kind : DefKind) (body : Body) → IsBodyOf kind body → is_kept kind ≡ true
-kept-kind Dimension body of = refl
-kept-kind (Relation target base) body of = refl
-kept-kind (Valueset dimension) body of = refl
-kept-kind (Variable kind dimensions) body of = refl
-kept-kind (Formula text) body of = absurd of
-kept-kind (Program text) body of = absurd of
-kept-kind (Aggmap text) body of = absurd of
 
 not-both : (kind : DefKind) (body : Body) → is_kept kind ≡ false → IsBodyOf kind body → ⊥
 not-both kind body unkept of = true≢false (sym (kept-kind kind body of) ∙ unkept)

@@ -2,7 +2,7 @@
 use Rattle.std.specs.Prelude.{◌≡◌, ◌≢◌, ◌≤◌, ◌==◌, ◌+◌, ◌||◌, ◌↔◌, ℕ, zero, suc, ℤ, Bool, true, false, not, cond, List, [], ◌∷◌, Option, Some, None, IfSome, if◌then◌else◌, refl}
 use Rattle.std.specs.Option.{option_map, IsSomeAnd}
 use Rattle.std.proofs.Common.{◌∙◌, ap, ap₂, sym, subst, arith}
-use Rattle.std.proofs.lemmas.Bool.{eqb-true, eq-eqb}
+use Rattle.std.proofs.lemmas.Bool.{eqb-true}
 use Rattle.std.proofs.lemmas.Option.{none-some, same_Some}
 use Rattle.std.proofs.Math.Bool.{and-false}
 use Rattle.aw_cell.specs.declared.cell.Cell.TheVariants.{Int}
@@ -21,14 +21,14 @@ use Rattle.aw_body.specs.OwnerLaws.{owner_of-taken, owner_of-given_up}
 use Rattle.aw_codec.specs.Records.{IsSpelled}
 use Rattle.mv_core.specs.Lookups.{latest_from}
 use Rattle.mv_core.specs.Workspace.{Workspace, object_of as object_kept, standing_from, standing}
-use Rattle.mv_view.specs.Each.{object_in, only, listed, names, passes, numbers_from}
+use Rattle.mv_view.specs.Each.{object_in, only, listed, names, numbers_from}
 use Rattle.mv_view.specs.Fit as seen
 use Rattle.mv_view.specs.Laws.{AreLatest, MayBeKept, CanRise, grown, leaving_objects}
 use Rattle.mv_view.specs.Rules as rule
-use Rattle.mv_view.specs.ViewState.{ObjectView, ViewState, object_of, is_owned, owned_objects, AreOwned, AreCellsOf, kinds_of, kept_kinds}
-use Rattle.mv_view.proofs.callers.Each.{names-numbers}
+use Rattle.mv_view.specs.ViewState.{ObjectView, ViewState, object_of, owned_objects, AreCellsOf, kinds_of, kept_kinds}
 use Rattle.mv_view.proofs.callers.Fitting.{own-calls, acquiring, latest-found}
 use Rattle.mv_view.proofs.callers.Committing.{attaching, committing, others-fit}
+use Rattle.mv_view.proofs.callers.OwnedObjects.{owned-listed}
 use Rattle.script_meaning.specs.Fit.{IsKeptOf, ViewFits}
 use Rattle.script_meaning.proofs.Differences.{gives_newer}
 use Rattle.script_meaning.proofs.KeptKinds.{if-some, each-some, seen-kept}
@@ -36,24 +36,6 @@ use Rattle.script_meaning.proofs.StoredBodies.{KeptBodies}
 use Rattle.script_meaning.proofs.Fitting.{IsGood, good-if, good-seen, good-written, good-staging, good-owning, good-committed, one_cell, view-fits, view-changed, goods}
 
 -- ---- an assignment, UPDATE
-
-owned-passes : (found : Option ObjectView) → passes is_owned found ≡ true → IsSomeAnd found (λ one. one.owned ≡ true)
-owned-passes None is = cc
-owned-passes (Some one) is = is
-
-or-right : (a b : Bool) → b ≡ true → (a || b) ≡ true
-or-right true b is = refl
-or-right false b is = is
-
-owned-named : (view : ViewState) (those : List ℕ) → ((object : ℕ) → names those object ≡ true → passes is_owned (object_of view object) ≡ true) → AreOwned view those
-owned-named view [] each = tt
-owned-named view (first ∷ rest) each = (
-  owned-passes (object_of view first) (each first (ap (λ b. b || names rest first) (eq-eqb first first refl))),
-  owned-named view rest (λ object named. each object (or-right (first == object) (names rest object) named)),
-)
-
-owned_listed : (view : ViewState) → AreOwned view (owned_objects view)
-owned_listed view = owned-named view (owned_objects view) (λ object named. sym (names-numbers is_owned 0 view.objects object object (omega arith)) ∙ named)
 
 pub view-written : (w : Workspace) (who : ℕ) (view : ViewState) (object : ℕ) (found : ObjectView) (value : ℤ) → ViewFits w who view → object_of view object ≡ Some found → found.kind ≡ Variable cells.Int [] → IsSpelled (Int value) → ViewFits w who (rule.written view object (one_cell value))
 view-written w who view object found value it there single spelled =
@@ -66,7 +48,7 @@ view-written w who view object found value it there single spelled =
 pub view-updated : (w : Workspace) (who : ℕ) (view : ViewState) → ViewFits w who view → ViewFits w who (rule.updated view (owned_objects view))
 view-updated w who view it =
     view-changed w w who view (listed (owned_objects view) rule.staging) it
-    ((own-calls w.definitions (bodies_of w.definitions) w.history w.owners view it.fits).updated (owned_objects view) (owned_listed view))
+    ((own-calls w.definitions (bodies_of w.definitions) w.history w.owners view it.fits).updated (owned_objects view) (owned-listed view))
     (λ at one is good. good-if (names (owned_objects view) at) (rule.staging one) one (λ named. good-staging one good) good)
 
 -- ---- ACQUIRE

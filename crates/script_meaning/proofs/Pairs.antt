@@ -1,11 +1,11 @@
 -- What holds of the keys and of the cells of two lists of cells, and of NA, holds of what one makes of the other.
-use Rattle.std.specs.Prelude.{◌≡◌, ◌==◌, ◌≤◌, ◌<◌, ◌&&◌, ℕ, Bool as Truth, true, false, not, cond, List, [], ◌∷◌, map, length, nat_lt, All, refl}
+use Rattle.std.specs.Prelude.{◌≡◌, ◌==◌, ◌≤◌, ◌&&◌, ℕ, Bool as Truth, true, false, not, cond, List, [], ◌∷◌, map, length, nat_lt, All, refl}
 use Rattle.std.specs.List.{list_all}
 use Rattle.std.specs.Ordering.{eq_by_cmp}
 use Rattle.std.specs.FinMap.{put}
 use Rattle.std.specs.FinMap.Entries.{by_order, where_key}
 use Rattle.std.specs.declared.cmp.Ordering.TheVariants.{Less, Equal, Greater}
-use Rattle.std.proofs.lemmas.Bool.{and_parts, and_from, lt-ltb}
+use Rattle.std.proofs.lemmas.Bool.{and_parts, and_from}
 use Rattle.std.proofs.lemmas.List.Elements.{All-nil, All-cons, All-head, All-tail}
 use Rattle.aw_lists.specs.Coord.{AreSlots}
 use Rattle.aw_cell.specs.declared.cell.Cell.{Cell}
@@ -110,8 +110,3 @@ pub variable-pairs : (slots : ℕ) (kind : Kind) (pairs : Cells) → ArePairs (I
 variable-pairs slots kind [] all = refl
 variable-pairs slots kind (pair ∷ pairs) all =
     and_from (is_pair_of slots kind pair) (list_all (is_pair_of slots kind) pairs) (and_from (is_key_of slots pair.0) (is_of_kind kind pair.1) all.0.0 all.0.1) (variable-pairs slots kind pairs all.1)
-
-pub slots-tested : (slots : List ℕ) → AreSlots slots → list_all (λ slot. nat_lt slot 65536) slots ≡ true
-slots-tested [] all = refl
-slots-tested (slot ∷ slots) all =
-    and_from (nat_lt slot 65536) (list_all (λ slot. nat_lt slot 65536) slots) (lt-ltb slot 65536 (All-head (λ slot. slot < 65536) slot slots all)) (slots-tested slots (All-tail (λ slot. slot < 65536) slot slots all))

@@ -1,19 +1,16 @@
 -- The changes that a session commits are its own, fit the latest bodies, and can be written.
-use Rattle.std.specs.Prelude.{◌≡◌, ◌<◌, ◌≤◌, ◌+◌, ◌^◌, ◌==◌, ◌&&◌, ℕ, zero, suc, Bool, true, false, cond, List, [], ◌∷◌, find, length, All, Option, Some, None, IfSome, IsTrue, is_some, if◌then◌else◌, refl}
+use Rattle.std.specs.Prelude.{◌≡◌, ◌<◌, ◌≤◌, ◌+◌, ◌^◌, ◌==◌, ◌&&◌, ℕ, zero, suc, Bool, true, false, cond, List, [], ◌∷◌, find, length, All, Option, Some, None, IfSome, IsTrue, is_some, if◌then◌else◌, refl, nat_eq}
 use Rattle.std.specs.List.{list_all, sum_by, cons_option}
 use Rattle.std.specs.Option.{option_map, option_and_then}
 use Rattle.std.specs.Cmp.Lexicographic.{pointwise}
-use Rattle.std.specs.Prelude.{nat_eq}
 use Rattle.std.proofs.Common.{◌∙◌, ap, sym, subst, arith, length-append}
 use Rattle.std.proofs.lemmas.Bool.{and_from, eqb-true}
 use Rattle.std.proofs.lemmas.List.Elements.{All-nil, All-cons}
 use Rattle.std.proofs.lemmas.List.Sums.{sum_by-cons}
 use Rattle.std.proofs.lemmas.Option.{same_Some}
-use Rattle.aw_cell.specs.declared.cell.Cell.{Cell}
-use Rattle.aw_cell.specs.declared.cell.Cell.TheVariants.{Na, Num, Int, Text, Bool as Truth, Slot}
 use Rattle.aw_schema.specs.declared.definition.Def.{Def}
 use Rattle.aw_dim.specs.SameValues.{same_values}
-use Rattle.aw_dim.specs.Values.{Values as DimensionValues}
+use Rattle.aw_dim.specs.DimensionState.{DimensionState as DimensionValues}
 use Rattle.aw_var.specs.CellMap.{Cells, KeyedCell}
 use Rattle.aw_var.specs.CellPatch as cells
 use Rattle.aw_body.specs.declared.body.Body.{Body}
@@ -30,9 +27,9 @@ use Rattle.aw_codec.specs.declared.record.Decoded.TheVariants.{Definitions, Comm
 use Rattle.aw_codec.specs.Records.{is_recordable, IsSpelled, IsKeyedCell, IsPatch, IsChange}
 use Rattle.aw_codec.specs.Spellings as spelling
 use Rattle.aw_codec.proofs.CallerLemmas.{recordable_fits}
-use Rattle.aw_codec.proofs.callers.Lengths.{keyed_cell_length, cells_length, commit_length}
+use Rattle.aw_codec.proofs.callers.Lengths.{keyed_cell_length, cells_length, commit_length, cell_some}
 use Rattle.mv_core.specs.Workspace.{Workspace}
-use Rattle.aw_store.specs.Replay.{are_replayed, are_accepted_after, fits_latest}
+use Rattle.aw_store.specs.StoredRecords.{are_replayed, are_accepted_after, fits_latest}
 use Rattle.aw_store.proofs.callers.Commits.{few-definitions}
 use Rattle.mv_view.specs.Each.{object_in, gathered_from}
 use Rattle.mv_view.specs.Laws.{MayCommit}
@@ -51,18 +48,10 @@ use Rattle.script_meaning.proofs.Pairs.{IsKey, pairs-keyed, keyed-pairs, pairs-d
 
 -- ---- how long a patch of cells is
 
-cell-some : (cell : Cell) → 1 ≤ length (spelling.cell cell)
-cell-some Na = omega arith
-cell-some (Num units) = omega arith
-cell-some (Int value) = omega arith
-cell-some (Text text) = omega arith
-cell-some (Truth truth) = omega arith
-cell-some (Slot slot) = omega arith
-
 cells-fewer : (pairs : Cells) → length pairs ≤ sum_by (λ (pair : KeyedCell). length (spelling.keyed_cell pair)) pairs
 cells-fewer [] = omega arith
 cells-fewer (pair ∷ pairs) =
-    omega (arith, sum_by-cons (λ (pair : KeyedCell). length (spelling.keyed_cell pair)) pair pairs, keyed_cell_length pair, cell-some pair.1, cells-fewer pairs)
+    omega (arith, sum_by-cons (λ (pair : KeyedCell). length (spelling.keyed_cell pair)) pair pairs, keyed_cell_length pair, cell_some pair.1, cells-fewer pairs)
 
 -- a patch with fewer than 2 ^ 32 cells
 abbrev IsShort : BodyPatch → Type 0

@@ -15,11 +15,10 @@ use Rattle.mv_core.specs.declared.entry.Reply.{Reply}
 use Rattle.mv_core.specs.declared.entry.Reply.TheVariants.{Acquired, Committed, Released, Detached}
 use Rattle.mv_core.specs.SharedStep.{shared_step, writes, workspace_after}
 use Rattle.mv_core.specs.Workspace.{Workspace, Table, table_of}
-use Rattle.aw_store.specs.Images.{IsStored, AreRecords}
-use Rattle.aw_store.specs.Replay.{are_replayed, are_accepted_after, can_replay, definitions_of, commits_of, stood_by}
+use Rattle.aw_store.specs.StoredRecords.{IsStored, AreRecords, are_replayed, are_accepted_after, can_replay, definitions_of, commits_of, stood_by}
 use Rattle.aw_store.specs.Stores.{StandFor, record_of}
 use Rattle.aw_store.proofs.callers.Commits.{can-write}
-use Rattle.aw_store.proofs.callers.Following.{definitions_of-commit}
+use Rattle.aw_store.proofs.callers.Following.{definitions_of-commit, commits_of-commit}
 use Rattle.mv_view.specs.Rules.{changes}
 use Rattle.ses_step.specs.declared.session.Known.{Known as Session}
 use Rattle.script_world.specs.Outcomes.{Outcome}
@@ -28,7 +27,7 @@ use Rattle.script_meaning.specs.Fit.{AreDefinable}
 use Rattle.script_meaning.specs.Language.{bytes_of, kept_step, store_writing, history_machine}
 use Rattle.script_meaning.proofs.Begins.{AskedOf, AsksCommit, acquiring}
 use Rattle.script_meaning.proofs.CutOff.{cut_off-cases, large-unwritten}
-use Rattle.script_meaning.proofs.Keeping.{Sound, Fits, Spoken, asked_so, Defined}
+use Rattle.script_meaning.proofs.FittingSessions.{Sound, Fits, Spoken, asked_so, Defined}
 use Rattle.script_meaning.proofs.Recording.{are_changes}
 
 pub record Match (records : List Decoded) (definitions : List Def) (history : List (List Change)) : Type 0 where
@@ -80,11 +79,6 @@ history-unwritten w (entry.Release who listed) Released not_writing = refl
 history-unwritten w (entry.Detach who) Detached not_writing = refl
 history-unwritten w _ _ not_writing = refl
 
-commits_of-push : (records : List Decoded) (commit : List Change) → commits_of (records ++ stored.Commit commit ∷ []) ≡ commits_of records ++ commit ∷ []
-commits_of-push [] commit = refl
-commits_of-push (stored.Definitions definitions ∷ records) commit = commits_of-push records commit
-commits_of-push (stored.Commit others ∷ records) commit = ap (λ (rest : List (List Change)). others ∷ rest) (commits_of-push records commit)
-
 AreRecords-push : (records : List Decoded) (last : Decoded) → AreRecords records → IsStored last → AreRecords (records ++ last ∷ [])
 AreRecords-push [] last are is = (is, tt)
 AreRecords-push (first ∷ records) last are is = (are.0, AreRecords-push records last are.1 is)
@@ -124,7 +118,7 @@ module _ (those : List Decoded) (d : List Def) (shared : Workspace) (count who :
       let all : All IsChange commit = asked-commit s by commit leave known (λ made. bytes_of (stored.Commit made) ≤ 67108864 → All IsChange made) (λ it few. are_changes shared who it.view (fits.session.view it.view it.attached) definable few) short in
       record {
         definitions_are = definitions_of-commit those commit ∙ match.definitions_are;
-        commits = commits_of-push those commit ∙ ap (λ (history : List (List Change)). history ++ commit ∷ []) match.commits;
+        commits = commits_of-commit those commit ∙ ap (λ (history : List (List Change)). history ++ commit ∷ []) match.commits;
         replayable = can.replayable;
         spellings = AreRecords-push those (stored.Commit commit) match.spellings (record {
           spelling = (can.some, omega (arith, can.committable.few), can.committable.rising, all);

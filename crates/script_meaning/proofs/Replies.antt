@@ -5,7 +5,6 @@ use Rattle.std.proofs.Common.{◌∙◌, ap, sym, subst, inl, inr}
 use Rattle.std.proofs.lemmas.Bool.{eqb-true, eqb-false, ltb-true, ltb-false, leb-false}
 use Rattle.aw_schema.specs.declared.definition.Def.{Def}
 use Rattle.aw_schema.specs.declared.definition.DefKind.{DefKind}
-use Rattle.aw_schema.specs.Definitions.{is_kept}
 use Rattle.aw_body.specs.declared.body.Body.{Body}
 use Rattle.aw_body.specs.declared.change.Change.{Change}
 use Rattle.aw_body.specs.Generations.{Bodies, latest_number}
@@ -18,23 +17,18 @@ use Rattle.mv_core.specs.Replies.{newer, block, may_make, first_refused, is_worn
 use Rattle.mv_core.specs.Workspace.{Workspace, object_of, standing}
 use Rattle.mv_view.specs.Each.{object_in}
 use Rattle.mv_view.specs.ViewState.{kept_kinds}
-use Rattle.aw_store.proofs.callers.Standing.{kept_at-standing}
+use Rattle.aw_store.proofs.callers.StandingObjects.{kept_at-standing, stands_as}
 use Rattle.script_meaning.proofs.Begins.{acquiring}
 use Rattle.script_meaning.proofs.KeptKinds.{kept-here}
 
 -- ---- what is looked up
-
--- what stands of a definition
-abbrev stood_of : Option Def → Object Body → Option (Object Body)
-stood_of None it = None
-stood_of (Some def) it = if is_kept def.kind then Some it else None
 
 -- a kept object stands as the commits and the owners have it
 pub kept-stands : (bodies : Bodies Body Change) (w : Workspace) (object : ℕ) (kind : DefKind) → object_in (kept_kinds w.definitions) object ≡ Some kind → kept_at (standing bodies w) object ≡ Some (object_of bodies w object)
 kept-stands bodies w object kind kept =
     let it = kept-here w.definitions object kind kept in
     kept_at-standing bodies w object
-    ∙ ap (λ (found : Option Def). stood_of found (object_of bodies w object)) it.there
+    ∙ ap (λ (found : Option Def). stands_as found (object_of bodies w object)) it.there
     ∙ ap (λ (b : Bool). if b then Some (object_of bodies w object) else None) it.kept
 
 -- what is found passes its test, and fails each test that finds nothing

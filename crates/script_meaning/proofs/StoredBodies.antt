@@ -29,14 +29,14 @@ use Rattle.aw_body.proofs.CallerLemmas.{CanTake-fits, IsBodyOf-applied}
 use Rattle.aw_codec.specs.declared.record.Decoded.{Decoded}
 use Rattle.aw_codec.specs.declared.record.Decoded.TheVariants.{Definitions, Commit}
 use Rattle.aw_codec.specs.Records.{AreInRange, IsDefinition, IsSpelled, IsKeyedCell, IsPatch, IsChange}
-use Rattle.aw_store.specs.Images.{IsStored, AreRecords}
-use Rattle.aw_store.specs.Replay.{fits_latest, are_commits_after, commits_of}
+use Rattle.aw_store.specs.StoredRecords.{IsStored, AreRecords, fits_latest, are_commits_after, commits_of}
 use Rattle.mv_view.specs.Each.{object_in}
 use Rattle.mv_view.specs.ViewState.{kept_kinds}
 use Rattle.script_meaning.specs.Fit.{CanBeWritten, IsKeptOf}
 use Rattle.script_meaning.proofs.Differences.{overwritten_map}
 use Rattle.script_meaning.proofs.KeptKinds.{for-kept, kept-here, if-and}
-use Rattle.script_meaning.proofs.Pairs.{ArePairs, IsKey, IsKeyOf, IsCellOf, pairs-overwritten, pairs-keyed, keyed-pairs, pairs-variable, variable-pairs, slots-tested}
+use Rattle.script_meaning.proofs.Pairs.{ArePairs, IsKey, IsKeyOf, IsCellOf, pairs-overwritten, pairs-keyed, keyed-pairs, pairs-variable, variable-pairs}
+use Rattle.aw_var.proofs.callers.FiniteMaps.{slots_all}
 
 -- ---- elements
 
@@ -69,7 +69,7 @@ changes-pairs slots kind (change ∷ changes) are all =
     let parts = and_parts (is_change_of slots kind change) (list_all (is_change_of slots kind) changes) are in
     let shape = and_parts (length change.0 == slots) (is_of_kind kind change.1) parts.0 in
     let first = All-head IsKeyedCell change changes all in
-    ((and_from (length change.0 == slots) (list_all (λ slot. nat_lt slot 65536) change.0) shape.0 (slots-tested change.0 first.0), shape.1), changes-pairs slots kind changes parts.1 (All-tail IsKeyedCell change changes all))
+    ((and_from (length change.0 == slots) (list_all (λ slot. nat_lt slot 65536) change.0) shape.0 (slots_all change.0 first.0), shape.1), changes-pairs slots kind changes parts.1 (All-tail IsKeyedCell change changes all))
 
 variable-overwritten : (contents : Contents) (changes : Cells) → IsVariable contents → AreChangesOf contents changes → All IsKeyedCell changes → IsVariable (record contents { cells = cells.overwritten contents.cells changes })
 variable-overwritten contents changes valid take all = record {

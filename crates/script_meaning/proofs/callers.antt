@@ -1,9 +1,9 @@
 -- Lemmas that are offered to the crates above.
-pub mod Acting
 pub mod AllDone
 pub mod Defining
-pub mod Faring
 pub mod LineDefinitions
-pub mod Standing
 pub mod StoreRuns
 pub mod TakingTurns
+pub mod StoreAttempts
+pub mod AttemptCrashes
+pub mod ObjectsSimulation

@@ -1,15 +1,11 @@
 -- Outcomes that are all done change nothing, since a commit is done where no outcome is left.
-use Rattle.std.specs.Prelude.{◌≡◌, List, [], ℕ}
-use Rattle.std.specs.List.{All}
+use Rattle.std.specs.Prelude.{List, [], ℕ}
 use Rattle.aw_codec.specs.declared.record.Decoded.{Decoded}
 use Rattle.script_world.specs.Worlds.{Event}
 use Rattle.script_world.specs.Outcomes.{Outcome, done}
 use Rattle.script_world.specs.Laws.{SameOf}
 use Rattle.script_meaning.specs.Language.{by_history}
 use Rattle.script_meaning.specs.Transcript.{opening}
-
-abbrev pub AreDone : List Outcome → Type 0
-AreDone outcomes = All (λ outcome. outcome ≡ done) outcomes
 
 -- these events are answered as with no outcomes at all, and leave the same world
 abbrev pub IsAsWithNone : List (List ℕ) → List Decoded → List Outcome → List Event → Type 0

@@ -2,12 +2,11 @@
 use Rattle.std.specs.Prelude.{ℕ, List}
 use Rattle.aw_codec.specs.declared.record.Decoded.{Decoded}
 use Rattle.script_world.specs.Worlds.{Event}
-use Rattle.script_world.specs.Outcomes.{Outcome, among}
-use Rattle.script_world.specs.Left.{MayLeave, LeavesARun}
+use Rattle.script_world.specs.Outcomes.{Outcome, among, MayLeave}
+use Rattle.script_world.specs.SettledRuns.{LeavesARun}
 use Rattle.script_meaning.specs.Language.{store_writing, history_machine}
-use Rattle.script_meaning.specs.Matching.{CanBeOpened}
-use Rattle.script_meaning.specs.SameRecords.{SameRecords}
-use Rattle.script_meaning.specs.Transcript.{opening, attempts}
+use Rattle.aw_store.specs.StoredRecords.{CanBeOpened}
+use Rattle.script_meaning.specs.Transcript.{SameRecords, opening, attempts}
 
 abbrev pub LeavesARunOf : List (List ℕ) → List Decoded → List Outcome → List Event → Type 0
 LeavesARunOf names records coming events =

@@ -10,7 +10,7 @@ use Rattle.aw_cell.specs.Names.{is_name}
 use Rattle.aw_cell.specs.Number.{IsInRange}
 use Rattle.aw_cell.specs.Text.{is_text_byte}
 use Rattle.aw_lists.specs.Coord.{AreSlots}
-use Rattle.aw_dim.specs.Values.{Entry, IsDimension}
+use Rattle.aw_dim.specs.DimensionState.{Entry, IsDimension}
 use Rattle.aw_var.specs.CellMap.{KeyedCell}
 use Rattle.aw_var.specs.Variable.{Contents, IsVariable}
 use Rattle.aw_schema.specs.declared.definition.Def.{Def}
@@ -22,8 +22,7 @@ use Rattle.aw_body.specs.Bodies.{IsBodyOf}
 use Rattle.aw_codec.specs.declared.record.Decoded.{Decoded}
 use Rattle.mv_core.specs.declared.object.Object.{Object}
 use Rattle.mv_core.specs.Workspace.{Table}
-use Rattle.aw_store.specs.Replay.{definitions_of, stood_by}
-use Rattle.script_meaning.specs.Matching.{CanBeOpened}
+use Rattle.aw_store.specs.StoredRecords.{definitions_of, stood_by, CanBeOpened}
 
 -- ---- what a body has
 

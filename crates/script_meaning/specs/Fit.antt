@@ -12,8 +12,7 @@ use Rattle.aw_body.specs.Owners.{owner_of}
 use Rattle.aw_codec.specs.declared.record.Decoded.TheVariants.{Definitions}
 use Rattle.aw_codec.specs.Records.{IsKeyedCell}
 use Rattle.mv_core.specs.Workspace.{Workspace}
-use Rattle.aw_store.specs.Images.{IsStored}
-use Rattle.aw_store.specs.Replay.{are_replayed, are_accepted_after}
+use Rattle.aw_store.specs.StoredRecords.{IsStored, are_replayed, are_accepted_after}
 use Rattle.mv_view.specs.Each.{object_in}
 use Rattle.mv_view.specs.Fit as seen
 use Rattle.mv_view.specs.Recording.{CanBeRecorded}

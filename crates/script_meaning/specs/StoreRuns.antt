@@ -6,7 +6,7 @@ use Rattle.aw_codec.specs.declared.record.Decoded.{Decoded}
 use Rattle.aw_store.specs.Stores.{StoreState}
 use Rattle.script_world.specs.Worlds.{World, Event, first_sessions, text_of, any_refused}
 use Rattle.script_world.specs.Outcomes.{Outcome, Attempt}
-use Rattle.script_world.specs.Running.{HasRun}
+use Rattle.script_world.specs.LearntOutcomes.{HasRun}
 use Rattle.script_meaning.specs.Language.{language, store_writing, objects_machine, ObjectsDisk, by_history}
 use Rattle.script_meaning.specs.Transcript.{opening, opening_objects, attempts}
 

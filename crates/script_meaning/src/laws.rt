@@ -12,15 +12,13 @@ ghost use Rattle.ses_step.specs.declared.definition.Definition.{Definition};
 ghost use Rattle.ses_step.specs.declared.line.Line.TheVariants as form;
 ghost use Rattle.ses_step.specs.Lines.{line_form};
 ghost use Rattle.script_world.specs.Faults.{SeesFaults, FaultsAreSeen};
-ghost use Rattle.script_world.specs.Laws.{KeepsOthers, SameOf, GoesOn, RefusalChangesNothing, LeavesApart, MalformedIsRefused, ClosesExactly, SessionsAreAnswered, TextFixesWorld};
-ghost use Rattle.script_world.specs.Left.{LeavesAllDone};
-ghost use Rattle.script_world.specs.Outcomes.{Outcome, Attempt, among, used};
-ghost use Rattle.script_world.specs.Script.{LinesAreSplit};
+ghost use Rattle.script_world.specs.Laws.{KeepsOthers, SameOf, GoesOn, RefusalChangesNothing, LeavesApart, MalformedIsRefused, ClosesExactly, SessionsAreAnswered, TextFixesWorld, LinesAreSplit};
+ghost use Rattle.script_world.specs.Outcomes.{LeavesAllDone, Outcome, Attempt, among, used, AreDone};
 ghost use Rattle.script_world.specs.Worlds.{Event};
-ghost use Rattle.script_meaning.specs.Acquiring.{AcquiresAreAnswered};
-ghost use Rattle.script_meaning.specs.Alike.{AreAlike};
-ghost use Rattle.script_meaning.specs.AllDone.{AreDone, IsAsWithNone};
-ghost use Rattle.script_meaning.specs.Answering.{CommandsAreAnswered, AssignmentsAreDone, IsOneLine};
+ghost use Rattle.script_meaning.specs.AcquireAnswers.{AcquiresAreAnswered};
+ghost use Rattle.script_meaning.specs.ObjectsSimulation.{AreAlike};
+ghost use Rattle.script_meaning.specs.AllDone.{IsAsWithNone};
+ghost use Rattle.script_meaning.specs.CommandAnswers.{CommandsAreAnswered, AssignmentsAreDone, IsOneLine};
 ghost use Rattle.script_meaning.specs.CommitFaults.{is_fault, fault_answer};
 ghost use Rattle.script_meaning.specs.CrashRuns.{LeavesARunOf, LeavesWhatOpens};
 ghost use Rattle.script_meaning.specs.DefinitionAnswers.{AnswersDefinition, IsRefused};
@@ -28,11 +26,11 @@ ghost use Rattle.script_meaning.specs.Dump.{DumpTells, RecordsTell};
 ghost use Rattle.script_meaning.specs.Extending.{CommitsExtend, GrantsHaveLatest};
 ghost use Rattle.script_meaning.specs.Fit.{WorldFits};
 ghost use Rattle.script_meaning.specs.Language.{HistoryWorld, store_writing, history_machine, by_history};
-ghost use Rattle.script_meaning.specs.Matching.{CanBeOpened, RecordsMatch, EndMatches, SameState};
-ghost use Rattle.script_meaning.specs.Reading.{AttachGivesLatest, OwnCommandsMove, ShowsWhatIsRead, ReadItsOwn};
-ghost use Rattle.script_meaning.specs.SameRecords.{SameRecords};
-ghost use Rattle.script_meaning.specs.TakingTurns.{LinesTakeTurns};
-ghost use Rattle.script_meaning.specs.Transcript.{opening, world_at};
+ghost use Rattle.script_meaning.specs.RecordsOfRuns.{RecordsMatch, EndMatches, SameState};
+ghost use Rattle.aw_store.specs.StoredRecords.{CanBeOpened};
+ghost use Rattle.script_meaning.specs.SnapshotReads.{AttachGivesLatest, OwnCommandsMove, ShowsWhatIsRead, ReadItsOwn};
+ghost use Rattle.script_meaning.specs.Transcript.{SameRecords, opening, world_at};
+ghost use Rattle.script_meaning.specs.Turns.{LinesTakeTurns};
 
 /// After any lines of a script the view of each attached session fits what is committed and owned:
 /// the session has one committed generation of each kept object, has the latest one of an object

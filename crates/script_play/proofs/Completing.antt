@@ -4,24 +4,18 @@ use Rattle.std.specs.List.{count_by}
 use Rattle.std.proofs.Common.{sym, subst, inl, inr, ⊎_elim, arith}
 use Rattle.std.proofs.lemmas.Bool.{true≢false}
 use Rattle.aw_lists.specs.Faults.{Rose}
-use Rattle.script_disk.specs.Formatted.{AreFormatted}
-use Rattle.script_disk.specs.Opened.{IsUnopened, status_of as unopened_status}
+use Rattle.script_disk.specs.WhyUnopened.{AreFormatted, IsUnopened, status_of as unopened_status}
 use Rattle.script_disk.specs.declared.opening.Unopened.{Unopened}
 use Rattle.script_disk.specs.declared.opening.Unopened.TheVariants as unopened
 use Rattle.script_disk.proofs.callers.Completing.{not_unformatted, not_damaged}
 use Rattle.aw_codec.specs.declared.record.Decoded.{Decoded}
 use Rattle.aw_io.specs.Known.{Grows}
-use Rattle.script_meaning.specs.AllDone.{AreDone}
-use Rattle.script_world.specs.Outcomes.{Outcome, Attempt}
-use Rattle.script_world.specs.Faults.{has_faulted}
+use Rattle.script_world.specs.Outcomes.{AreDone, Outcome, Attempt, has_faulted}
 use Rattle.script_meaning.specs.Transcript.{transcript}
 use Rattle.script_meaning.proofs.callers.AllDone.{none_faulted, transcript_as_with_none}
 use Rattle.script_play.specs.declared.ending.Ending.{Ending}
 use Rattle.script_play.specs.declared.ending.Ending.TheVariants.{Accepted, Refusing, SourceFault, SinkFault, DiskFault, NoMemory, TooLong}
-use Rattle.script_play.specs.Statuses.{status_of}
-use Rattle.script_play.specs.Reading.{Streams}
-use Rattle.script_play.specs.Turning.{FewFaults}
-use Rattle.script_play.specs.Ends.{EndsSo, Contents, Plays, Completes}
+use Rattle.script_play.specs.Runs.{status_of, Streams, FewFaults, EndsSo, Run, Ends, Completes}
 
 -- no outcome is a fault where no fault was counted
 no_faults : (outcomes : List Outcome) (before now : ℕ) → FewFaults outcomes before now → (Rose before now → ⊥) → count_by has_faulted outcomes ≡ 0
@@ -55,16 +49,16 @@ wants images (Some image) written_before written_now unopened.DiskFault status f
 wants images (Some image) written_before written_now unopened.NoMemory status formatted is told status_is tells sink disk = status_is
 wants images (Some image) written_before written_now unopened.SinkFault status formatted is told status_is tells sink disk = absurd (sink status_is)
 
-module _ (s : Streams) (c : Contents) (before now : ℕ) (past since : ℕ → List ℕ → Type 0) (status : ℕ) where
-  pub completes_so : Plays s c before now past since status → AreFormatted (past before) → ((image : List ℕ) → c.before ≡ Some image → past before image) → IsSome c.before → (status ≡ 3 → ⊥) → (status ≡ 4 → ⊥) → (status ≡ 5 → ⊥) → (Rose c.faults_before c.faults_now → ⊥) → Completes s c before now past since status
-  completes_so plays formatted is told source sink disk none = ⊎_elim
-      (λ not. inr (wants (past before) c.before s.written_before s.written_now not.why status formatted is told not.is not.tells sink disk))
+module _ (r : Run) (status : ℕ) where
+  pub completes_so : Ends r status → AreFormatted (r.crash_before r.clock_before) → ((image : List ℕ) → r.content_before ≡ Some image → r.crash_before r.clock_before image) → IsSome r.content_before → (status ≡ 3 → ⊥) → (status ≡ 4 → ⊥) → (status ≡ 5 → ⊥) → (Rose r.faults_before r.faults_now → ⊥) → Completes r status
+  completes_so ends formatted is told source sink disk none = ⊎_elim
+      (λ not. inr (wants (r.crash_before r.clock_before) r.content_before r.streams.written_before r.streams.written_now not.why status formatted is told not.is not.tells sink disk))
       (λ was.
-      let all = none_faulted was.outcomes (no_faults was.outcomes c.faults_before c.faults_now was.few none) in
+      let all = none_faulted was.outcomes (no_faults was.outcomes r.faults_before r.faults_now was.few none) in
       inl (record {
         opened = was;
         all_done = all;
         status_is = ends_well was.ending status was.is source sink disk;
-        whole = whole_text was.ending status s was.records was.outcomes was.made was.taken all was.is was.ends_so;
+        whole = whole_text was.ending status r.streams was.records was.outcomes was.made was.taken all was.is was.ends_so;
       }))
-      plays
+      ends

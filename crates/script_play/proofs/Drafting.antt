@@ -16,7 +16,7 @@ use Rattle.ses_report.specs.declared.refusal.Refusal.{Refusal}
 use Rattle.ses_report.specs.Refusals.{repeated, too_many}
 use Rattle.ses_step.specs.declared.definition.Definition.{Definition}
 use Rattle.script_meaning.specs.Defining.{kind_of, def_of, names_in, told, define_refusal}
-use Rattle.script_play.specs.Drafts.{name_there, refusal_told, DraftsSo}
+use Rattle.script_play.specs.inside.Drafts.{name_there, refusal_told, DraftsSo}
 
 -- the object that a name has is the one that is found
 pub there_found : (drafted : List Def) (name : List ℕ) → name_there drafted name ≡ option_map (λ (def : Def). def.name) (option_and_then (slice_get drafted) (object_of drafted name))

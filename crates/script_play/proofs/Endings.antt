@@ -9,40 +9,32 @@ use Rattle.aw_io.specs.Known.{Gives, Grows, Gives-nothing, Grows-nothing}
 use Rattle.aw_schema.specs.declared.definition.Def.{Def}
 use Rattle.aw_codec.specs.declared.record.Decoded.{Decoded}
 use Rattle.aw_journal.specs.Passed.{Passed}
-use Rattle.aw_store.specs.Images.{HoldsRecords, LeftRecords}
-use Rattle.aw_store.specs.Replay.{definitions_of, stood_by}
+use Rattle.aw_store.specs.StoredRecords.{HoldsRecords, LeftRecords, definitions_of, stood_by, CanBeOpened}
 use Rattle.aw_store.specs.Stores.{StoreState}
 use Rattle.script_world.specs.Outcomes.{Outcome, faulted, Attempt, all_attempts}
-use Rattle.script_world.specs.Laws.{Closes}
-use Rattle.script_world.specs.Worlds.{Event, line, block_ends, script_ends, with_shared, session_in, text_of, ended_events, script_events}
-use Rattle.script_meaning.specs.Alike.{standing_disk, objects_at}
-use Rattle.script_meaning.specs.Faring.{Fares, HoldsLeft}
-use Rattle.script_meaning.specs.Matching.{CanBeOpened}
-use Rattle.script_meaning.specs.Transcript.{opening, world_at, attempts}
+use Rattle.script_world.specs.Worlds.{Closes, Event, line, block_ends, script_ends, with_shared, session_in, text_of, ended_events, script_events}
+use Rattle.script_meaning.specs.ObjectsSimulation.{standing_disk, objects_at}
+use Rattle.script_meaning.specs.StoreAttempts.{HasAttempted}
+use Rattle.script_meaning.specs.Transcript.{HoldsLeft, opening, world_at, attempts, SameRecords}
 use Rattle.script_meaning.specs.Language.{form_of, is_any, HistoryDisk, HistoryWorld, ObjectsWorld, by_history, by_objects}
-use Rattle.script_meaning.specs.SameRecords.{SameRecords}
 use Rattle.script_meaning.specs.StoreRuns.{store_disk, IsRun}
-use Rattle.script_meaning.proofs.callers.Faring.{fares_opened, fares_final}
-use Rattle.script_meaning.proofs.callers.Standing.{are_alike, answered_alike}
+use Rattle.script_meaning.proofs.callers.AttemptCrashes.{fares_opened, fares_final}
+use Rattle.script_meaning.proofs.callers.ObjectsSimulation.{are_alike, answered_alike}
 use Rattle.script_meaning.proofs.callers.StoreRuns.{is_run, run_opened}
 use Rattle.script_play.specs.declared.ending.Ending.{Ending}
 use Rattle.script_play.specs.declared.ending.Ending.TheVariants.{Accepted, Refusing, SourceFault, SinkFault, DiskFault, NoMemory, TooLong}
 use Rattle.script_play.specs.declared.world.StoreWorld.{StoreWorld}
-use Rattle.script_play.specs.Cuts.{with_last, last_text, GrowsBehind}
-use Rattle.script_play.specs.Statuses.{most_bytes, status_of}
-use Rattle.script_play.specs.StoreWorlds.{world_of, IsSound}
-use Rattle.script_play.specs.Turning.{FewFaults, defining}
-use Rattle.script_play.specs.Playing.{Play, Stands, HasDone, ClosesWith, WasCut, HasFailed, HasPlayed, HasFinished}
-use Rattle.script_play.specs.Reading.{Streams, streams, BrokeOff, RanOver, EndedWhole, EndsRun, EndsFrom}
-use Rattle.script_play.specs.Ends.{IsFront, AreEvents, IsWhole, IsCut, IsUndefined, EndsSo, contents, WasOpened, Plays}
-use Rattle.script_play.specs.Opened.{opened_world, opened_play}
+use Rattle.script_play.specs.Runs.{with_last, last_text, GrowsBehind, most_bytes, status_of, FewFaults, defining, Streams, streams, IsFront, AreEvents, IsWhole, IsCut, IsUndefined, EndsSo, StreamFaults, run_on, WasOpened, Ends}
+use Rattle.script_play.specs.inside.StoreWorlds.{world_of, IsSound}
+use Rattle.script_play.specs.inside.Playing.{Play, Stands, HasDone, ClosesWith, WasCut, HasFailed, HasPlayed, HasFinished, opened_world, opened_play}
+use Rattle.script_play.specs.inside.ScriptReading.{BrokeOff, RanOver, EndedWhole, EndsRun, EndsFrom}
 use Rattle.script_meaning.proofs.callers.Defining.{definable-none}
-use Rattle.script_play.proofs.Turning.{later-same}
-use Rattle.script_play.proofs.Done.{cut_before, rose-earlier}
+use Rattle.script_play.proofs.LineSteps.{later-same}
+use Rattle.script_play.proofs.AnsweredEvents.{cut_before, rose-earlier}
 use Rattle.ses_step.specs.declared.session.Session.{Session}
 use Rattle.aw_lists.specs.Faults.{Rose}
 use Rattle.script_disk.specs.declared.opening.Unopened.{Unopened}
-use Rattle.script_disk.specs.Opened.{IsUnopened, status_of as unopened_status}
+use Rattle.script_disk.specs.WhyUnopened.{IsUnopened, status_of as unopened_status}
 
 if-some : (known : Option (List ℕ)) (P : List ℕ → Type 0) → ((image : List ℕ) → known ≡ Some image → P image) → IfSome known P
 if-some None P each = tt
@@ -227,7 +219,7 @@ module _ {D : Type 0} (faults clock : D → ℕ) (crash : D → ℕ → List ℕ
 
   pub begins : (store : StoreState D) (written : Option (List ℕ)) → store.doubt ≡ None → store.table ≡ stood_by store.records [] → ((image : List ℕ) → crash store.disk (clock store.disk) image → LeftRecords store.records store.doubt image) → HasPlayed faults clock crash store.records store.disk [] (opened_play store) written written
   begins store written certain stands images =
-      let P : Option Decoded → Type 0 = λ doubt. Fares SameRecords store.records [] [] (clock store.disk) (clock store.disk) (crash store.disk) store.records doubt in
+      let P : Option Decoded → Type 0 = λ doubt. HasAttempted SameRecords store.records [] [] (clock store.disk) (clock store.disk) (crash store.disk) store.records doubt in
       record {
         text = [];
         lines = record {
@@ -260,9 +252,9 @@ module _ {D : Type 0} (faults clock : D → ℕ) (crash : D → ℕ → List ℕ
 
   -- ---- the whole run
 
-  pub was_opened : (content : D → Option (List ℕ)) (disk : D) (ending : Ending) (s : Streams) (first last : StoreState D) → ((bytes : List ℕ) → content last.disk ≡ Some bytes → crash last.disk (clock last.disk) bytes) → CanBeOpened first.records → IfSome (content disk) (λ image. HoldsRecords image first.records) → Passed (clock disk) (clock first.disk) (crash disk) (crash first.disk) (crash disk (clock disk)) → faults disk ≤ faults first.disk → EndedAs faults clock crash first.records first.disk ending s last →
-      WasOpened s (contents (content disk) (content last.disk) (faults disk) (faults last.disk)) (clock disk) (clock last.disk) (crash disk) (crash last.disk) (status_of ending)
-  was_opened content disk ending s first last is_image opens holds passed later it = record {
+  pub was_opened : (content : D → Option (List ℕ)) (disk : D) (ending : Ending) (s : Streams) (f : StreamFaults) (first last : StoreState D) → ((bytes : List ℕ) → content last.disk ≡ Some bytes → crash last.disk (clock last.disk) bytes) → CanBeOpened first.records → IfSome (content disk) (λ image. HoldsRecords image first.records) → Passed (clock disk) (clock first.disk) (crash disk) (crash first.disk) (crash disk (clock disk)) → faults disk ≤ faults first.disk → EndedAs faults clock crash first.records first.disk ending s last →
+      WasOpened (run_on content faults clock crash s f disk last.disk) (status_of ending)
+  was_opened content disk ending s f first last is_image opens holds passed later it = record {
     records = first.records;
     can_be_opened = opens;
     holds = holds;
@@ -305,15 +297,15 @@ module _ {D : Type 0} (faults clock : D → ℕ) (crash : D → ℕ → List ℕ
       subst (λ start. EndsFrom faults clock crash start ending s other) is (subst (EndsFrom faults clock crash play ending s) (sym same) it)
 
   -- a run over a store that was just loaded
-  module _ (content : D → Option (List ℕ)) (disk : D) (ending : Ending) (s : Streams) (first last : StoreState D) (certain : first.doubt ≡ None) (table : first.table ≡ stood_by first.records []) (images : (image : List ℕ) → crash first.disk (clock first.disk) image → LeftRecords first.records first.doubt image)
+  module _ (content : D → Option (List ℕ)) (disk : D) (ending : Ending) (s : Streams) (f : StreamFaults) (first last : StoreState D) (certain : first.doubt ≡ None) (table : first.table ≡ stood_by first.records []) (images : (image : List ℕ) → crash first.disk (clock first.disk) image → LeftRecords first.records first.doubt image)
       (passed : Passed (clock disk) (clock first.disk) (crash disk) (crash first.disk) (crash disk (clock disk))) (later : faults disk ≤ faults first.disk) (ends : EndsFrom faults clock crash (opened_play first) ending s last) where
     ended : EndedAs faults clock crash first.records first.disk ending s last
     ended = ended_as faults clock crash first.records first.disk ending s last (ends.ends first.records first.disk (begins first s.written_before certain table images))
 
-    pub opened_plays : (after : D) → after ≡ last.disk → ((bytes : List ℕ) → content last.disk ≡ Some bytes → crash last.disk (clock last.disk) bytes) → CanBeOpened first.records → IfSome (content disk) (λ image. HoldsRecords image first.records) → (status : ℕ) → status ≡ status_of ending → Plays s (contents (content disk) (content after) (faults disk) (faults after)) (clock disk) (clock after) (crash disk) (crash after) status
-    opened_plays after same is_image opens holds status is =
-        let P : D → ℕ → Type 0 = λ after status. WasOpened s (contents (content disk) (content after) (faults disk) (faults after)) (clock disk) (clock after) (crash disk) (crash after) status in
-        inr (subst (λ after. P after status) (sym same) (subst (P last.disk) (sym is) (was_opened content disk ending s first last is_image opens holds passed later ended)))
+    pub opened_ends : (after : D) → after ≡ last.disk → ((bytes : List ℕ) → content last.disk ≡ Some bytes → crash last.disk (clock last.disk) bytes) → CanBeOpened first.records → IfSome (content disk) (λ image. HoldsRecords image first.records) → (status : ℕ) → status ≡ status_of ending → Ends (run_on content faults clock crash s f disk after) status
+    opened_ends after same is_image opens holds status is =
+        let P : D → ℕ → Type 0 = λ after status. WasOpened (run_on content faults clock crash s f disk after) status in
+        inr (subst (λ after. P after status) (sym same) (subst (P last.disk) (sym is) (was_opened content disk ending s f first last is_image opens holds passed later ended)))
 
     pub opened_later : (after : D) → after ≡ last.disk → faults disk ≤ faults after
     opened_later after same = let more = ended.stands.later.faults_later in subst (λ after. faults disk ≤ faults after) (sym same) (omega (arith, later, more))
@@ -325,5 +317,5 @@ module _ {D : Type 0} (faults clock : D → ℕ) (crash : D → ℕ → List ℕ
 
   -- ---- a disk that isn't opened
 
-  pub not_opened : (content : D → Option (List ℕ)) (disk after : D) (why : Unopened) (s : Streams) (status : ℕ) → status ≡ unopened_status why → IsUnopened why (content disk) s.written_before s.written_now → s.left_now ≡ s.left_before → content after ≡ content disk → Passed (clock disk) (clock after) (crash disk) (crash after) (crash disk (clock disk)) → Plays s (contents (content disk) (content after) (faults disk) (faults after)) (clock disk) (clock after) (crash disk) (crash after) status
-  not_opened content disk after why s status is tells left same passed = inl (record { why = why; is = is; tells = tells; left = left; content = same; kept = passed.kept; undisturbed = passed.only })
+  pub not_opened : (content : D → Option (List ℕ)) (disk after : D) (why : Unopened) (s : Streams) (f : StreamFaults) (status : ℕ) → status ≡ unopened_status why → IsUnopened why (content disk) s.written_before s.written_now → s.left_now ≡ s.left_before → content after ≡ content disk → Passed (clock disk) (clock after) (crash disk) (crash after) (crash disk (clock disk)) → Ends (run_on content faults clock crash s f disk after) status
+  not_opened content disk after why s f status is tells left same passed = inl (record { why = why; is = is; tells = tells; left = left; content = same; kept = passed.kept; undisturbed = passed.only })

@@ -1,23 +1,21 @@
 -- What the status of a run says of the disk and of the answers.
-use Rattle.std.specs.Prelude.{◌≡◌, ◌≤◌, ℕ, true, false, List, [], Option, None, Some, IfSome}
+use Rattle.std.specs.Prelude.{◌≡◌, ◌≤◌, ℕ, Bool, true, false, List, [], Option, None, Some, IfSome}
 use Rattle.std.proofs.Common.{◌∙◌, sym, subst, ⊎_elim, arith}
 use Rattle.aw_codec.specs.declared.record.Decoded.{Decoded}
-use Rattle.aw_store.specs.Images.{HoldsRecords}
-use Rattle.script_world.specs.Laws.{NoneRefused, SomeRefused}
+use Rattle.aw_store.specs.StoredRecords.{HoldsRecords}
+use Rattle.script_world.specs.Worlds.{answers_of, NoneRefused, SomeRefused, script_events}
+use Rattle.ses_report.specs.Reports.{Answer}
 use Rattle.script_world.specs.Outcomes.{Outcome, Attempt}
-use Rattle.script_world.specs.Worlds.{script_events}
 use Rattle.script_world.proofs.callers.Refused.{none_refused, some_refused}
 use Rattle.script_meaning.specs.Language.{by_history}
 use Rattle.script_meaning.specs.Transcript.{opening}
 use Rattle.script_disk.specs.declared.opening.Unopened.{Unopened}
 use Rattle.script_disk.specs.declared.opening.Unopened.TheVariants as unopened
-use Rattle.script_disk.specs.Opened.{ExplainsContent, status_of as unopened_status}
+use Rattle.script_disk.specs.WhyUnopened.{ExplainsContent, status_of as unopened_status}
 use Rattle.script_disk.proofs.callers.Completing.{holds_explains, unopened_explains}
 use Rattle.script_play.specs.declared.ending.Ending.{Ending}
 use Rattle.script_play.specs.declared.ending.Ending.TheVariants.{Accepted, Refusing, SourceFault, SinkFault, DiskFault, NoMemory, TooLong}
-use Rattle.script_play.specs.Statuses.{status_of}
-use Rattle.script_play.specs.Reading.{Streams}
-use Rattle.script_play.specs.Ends.{Contents, IsWhole, EndsSo, Plays, AnswersAll}
+use Rattle.script_play.specs.Runs.{status_of, Streams, Run, IsWhole, EndsSo, Ends, WasOpened, AnswersAll}
 
 -- a run whose disk was opened ends with neither 7 nor 8
 ends-other : (ending : Ending) (other : ℕ) → 7 ≤ other → other ≤ 8 → status_of ending ≡ other → ⊥
@@ -61,36 +59,31 @@ module _ (s : Streams) (records : List Decoded) (outcomes : List Outcome) (made 
   whole-refusing NoMemory is ends = let none : ⊥ = omega (arith, is) in absurd none
   whole-refusing TooLong is ends = let none : ⊥ = omega (arith, is) in absurd none
 
-module _ (s : Streams) (c : Contents) (before now : ℕ) (past since : ℕ → List ℕ → Type 0) (status : ℕ) (plays : Plays s c before now past since status) where
-  pub plays_explains : IfSome c.before (ExplainsContent status)
-  plays_explains = ⊎_elim
-      (λ not. subst (λ those. IfSome c.before (ExplainsContent those)) (sym not.is) (unopened_explains not.why c.before s.written_before s.written_now not.tells))
-      (λ was. subst (λ those. IfSome c.before (ExplainsContent those)) (sym was.is) (opened-explains was.ending c.before was.records was.holds)) plays
+module _ (r : Run) (status : ℕ) (ends : Ends r status) where
+  pub ends_explains : IfSome r.content_before (ExplainsContent status)
+  ends_explains = ⊎_elim
+      (λ not. subst (λ those. IfSome r.content_before (ExplainsContent those)) (sym not.is) (unopened_explains not.why r.content_before r.streams.written_before r.streams.written_now not.tells))
+      (λ was. subst (λ those. IfSome r.content_before (ExplainsContent those)) (sym was.is) (opened-explains was.ending r.content_before was.records was.holds)) ends
 
-  pub plays_accepted : status ≡ 0 → AnswersAll s c NoneRefused
-  plays_accepted zero = ⊎_elim (λ not. absurd (unopened-other not.why (omega (arith, not.is, zero)))) (λ was.
-      let whole = whole-accepted s was.records was.outcomes was.made was.taken was.ending (sym was.is ∙ zero) was.ends_so in
-      record {
-        records = was.records;
-        holds = was.holds;
-        taken = was.taken;
-        gives = was.gives;
-        at_end = whole.at_end;
-        outcomes = was.outcomes;
-        wrote = whole.wrote;
-        answers = none_refused (by_history was.outcomes) (opening [] was.records) (script_events was.taken) whole.refuses;
-      }) plays
+  -- a script that was read and answered to its end
+  whole-answers : (refused : Bool) (P : List (Option Answer) → Type 0) (was : WasOpened r status) → IsWhole r.streams was.records was.outcomes was.made was.taken refused → P (answers_of (by_history was.outcomes) (opening [] was.records) (script_events was.taken)) → AnswersAll r P
+  whole-answers refused P was whole said = record {
+    records = was.records;
+    holds = was.holds;
+    taken = was.taken;
+    gives = was.gives;
+    at_end = whole.at_end;
+    outcomes = was.outcomes;
+    wrote = whole.wrote;
+    answers = said;
+  }
 
-  pub plays_refusing : status ≡ 1 → AnswersAll s c SomeRefused
-  plays_refusing one = ⊎_elim (λ not. absurd (unopened-other not.why (omega (arith, not.is, one)))) (λ was.
-      let whole = whole-refusing s was.records was.outcomes was.made was.taken was.ending (sym was.is ∙ one) was.ends_so in
-      record {
-        records = was.records;
-        holds = was.holds;
-        taken = was.taken;
-        gives = was.gives;
-        at_end = whole.at_end;
-        outcomes = was.outcomes;
-        wrote = whole.wrote;
-        answers = some_refused (by_history was.outcomes) (opening [] was.records) (script_events was.taken) whole.refuses;
-      }) plays
+  pub ends_accepted : status ≡ 0 → AnswersAll r NoneRefused
+  ends_accepted zero = ⊎_elim (λ not. absurd (unopened-other not.why (omega (arith, not.is, zero)))) (λ was.
+      let whole = whole-accepted r.streams was.records was.outcomes was.made was.taken was.ending (sym was.is ∙ zero) was.ends_so in
+      whole-answers false NoneRefused was whole (none_refused (by_history was.outcomes) (opening [] was.records) (script_events was.taken) whole.refuses)) ends
+
+  pub ends_refusing : status ≡ 1 → AnswersAll r SomeRefused
+  ends_refusing one = ⊎_elim (λ not. absurd (unopened-other not.why (omega (arith, not.is, one)))) (λ was.
+      let whole = whole-refusing r.streams was.records was.outcomes was.made was.taken was.ending (sym was.is ∙ one) was.ends_so in
+      whole-answers true SomeRefused was whole (some_refused (by_history was.outcomes) (opening [] was.records) (script_events was.taken) whole.refuses)) ends

@@ -9,7 +9,7 @@ use Rattle.aw_cell.specs.Names.{same_word}
 use Rattle.aw_codec.specs.declared.record.Decoded.{Decoded}
 use Rattle.aw_codec.specs.declared.record.Decoded.TheVariants.{Definitions}
 use Rattle.mv_core.specs.Workspace.{Table}
-use Rattle.aw_store.specs.Replay.{definitions_of}
+use Rattle.aw_store.specs.StoredRecords.{definitions_of}
 use Rattle.aw_store.specs.Stores.{StoreState}
 use Rattle.aw_schema.specs.Definitions.{object_of}
 use Rattle.ses_report.specs.declared.refusal.Refusal.{Refusal}
@@ -37,8 +37,7 @@ use Rattle.script_meaning.specs.Defining.{define_refusal, accepted_by}
 use Rattle.script_meaning.specs.Fit.{AreDefinable}
 use Rattle.script_meaning.specs.Language.{language, defined_by, is_any, ObjectsDisk, ObjectsWorld}
 use Rattle.script_meaning.specs.StoreRuns.{store_disk}
-use Rattle.script_meaning.specs.TakingTurns.{with_turn}
-use Rattle.script_meaning.specs.Turns.{Turn, turn, turn_from}
+use Rattle.script_meaning.specs.Turns.{with_turn, Turn, turn, turn_from}
 use Rattle.script_meaning.proofs.callers.Defining.{definable-push}
 use Rattle.script_meaning.proofs.callers.LineDefinitions.{line_form-formed, spellable-formed}
 use Rattle.script_meaning.proofs.callers.TakingTurns.{commanded-turn}
@@ -46,10 +45,11 @@ use Rattle.script_play.specs.declared.world.StoreWorld.{StoreWorld}
 use Rattle.script_play.specs.declared.response.Response.{Response}
 use Rattle.script_play.specs.declared.stop.Stop.{Stop}
 use Rattle.script_play.specs.declared.stop.Stop.TheVariants.{SinkFault, DiskFault, NoMemory}
-use Rattle.script_play.specs.Drafts.{drafting_refusal, drafted_after, CanBeSpelled}
-use Rattle.script_play.specs.StoreWorlds.{definitions_in, AllSee, known_by, own_known, on_machine, IsMade, IsSound, answered_by, refused_response, refusing_response, joining_refusal, JoinsSo, own_place, placed}
-use Rattle.script_play.specs.Turning.{machine, Means, defining, IsOpen, command_means, session_means, named_means, form_means, event_means, Moves, Turned, TurnTakes, TurnWants, TurnsAt, Answers, Responds, Takes, Wants, Opens, ClosesSo, StopsSo, RespondsSo}
-use Rattle.script_play.proofs.Turning.{moves-nothing, moves-then}
+use Rattle.script_play.specs.inside.Drafts.{drafting_refusal, drafted_after, CanBeSpelled}
+use Rattle.script_play.specs.inside.StoreWorlds.{definitions_in, AllSee, known_by, own_known, on_machine, IsMade, IsSound, answered_by, refused_response, refusing_response, joining_refusal, JoinsSo, own_place, placed}
+use Rattle.script_play.specs.inside.LineSteps.{machine, Means, IsOpen, command_means, session_means, named_means, form_means, event_means, Moves, Turned, TurnTakes, TurnWants, TurnsAt, Answers, Responds, Takes, Wants, Opens, ClosesSo, StopsSo, RespondsSo}
+use Rattle.script_play.specs.Runs.{defining}
+use Rattle.script_play.proofs.LineSteps.{moves-nothing, moves-then}
 
 -- ---- the first command of a session that isn't attached makes no attempt
 

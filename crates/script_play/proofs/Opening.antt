@@ -10,13 +10,12 @@ use Rattle.aw_codec.specs.declared.record.Decoded.TheVariants.{Definitions, Comm
 use Rattle.aw_body.specs.KeptBodies.{bodies_of}
 use Rattle.mv_core.specs.Workspace.{table_of, opened}
 use Rattle.aw_journal.specs.Passed.{Passed}
-use Rattle.aw_store.specs.Images.{HoldsRecords, LeftRecords}
-use Rattle.aw_store.specs.Replay.{can_replay, definitions_of}
+use Rattle.aw_store.specs.StoredRecords.{HoldsRecords, LeftRecords, can_replay, definitions_of}
 use Rattle.aw_store.specs.Stores.{StoreState, Writes, Doubts}
-use Rattle.script_meaning.proofs.callers.Acting.{fares_done, fares_faulted}
+use Rattle.script_meaning.proofs.callers.StoreAttempts.{fares_done, fares_faulted}
 use Rattle.script_play.specs.declared.world.StoreWorld.{StoreWorld}
-use Rattle.script_play.specs.Turning.{Opens, FailsToOpen}
-use Rattle.script_play.proofs.Turning.{few-none, later-passed}
+use Rattle.script_play.specs.inside.LineSteps.{Opens, FailsToOpen}
+use Rattle.script_play.proofs.LineSteps.{few-none, later-passed}
 
 -- without definitions there are no records
 pub none-written : (records : List Decoded) → IsTrue (can_replay records) → definitions_of records ≡ None → records ≡ []

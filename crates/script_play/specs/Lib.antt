@@ -1,10 +1,2 @@
-pub mod Cuts
-pub mod Drafts
-pub mod StoreWorlds
-pub mod Turning
-pub mod Playing
-pub mod Players
-pub mod Statuses
-pub mod Reading
-pub mod Ends
-pub mod Opened
+pub mod inside
+pub mod Runs

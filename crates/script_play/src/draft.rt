@@ -1,7 +1,7 @@
 ghost use Rattle.std.specs.Prelude.{◌≡◌, IfOk, IsTrue, None, OnErr, Some, cond, find, is_none, length, map, nat_lt};
 ghost use Rattle.aw_schema.specs.Definitions.{is_spellable, object_of};
 ghost use Rattle.script_meaning.specs.Defining as spec;
-ghost use Rattle.script_play.specs.Drafts.{DraftsSo, name_there, refusal_told};
+ghost use Rattle.script_play.specs.inside.Drafts.{DraftsSo, name_there, refusal_told};
 
 use aw_cell::Text;
 use aw_lists::Coord;

@@ -1,5 +1,5 @@
 ghost use Rattle.std.specs.Prelude.{◌≡◌};
-ghost use Rattle.script_play.specs.Statuses.{status_of};
+ghost use Rattle.script_play.specs.Runs.{status_of};
 
 /// How a run of `play` ends whose disk was opened.
 #[derive(Clone, Copy)]

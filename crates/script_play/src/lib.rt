@@ -2,15 +2,15 @@
 //! the next line is taken up.
 #![tactic(auto)]
 
-mod command;
+mod command_line;
 mod draft;
 mod ending;
 mod player;
 mod reading;
 mod response;
 mod stop;
-mod top;
 mod turn;
+mod whole_run;
 mod world;
 
-pub use command::run;
+pub use command_line::run;

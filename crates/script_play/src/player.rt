@@ -1,9 +1,8 @@
 ghost use Rattle.std.specs.Prelude.{◌≡◌, ◌∷◌, ◌≤◌, [], false, OnOk, Ok, Err};
 ghost use Rattle.std.specs.Str.Lines.{strip_carriage_return};
 ghost use Rattle.aw_lists.specs.Faults.{Rose};
-ghost use Rattle.script_play.specs.StoreWorlds.{IsSound};
-ghost use Rattle.script_play.specs.Playing.{WritesSo, RespondedSo, FeedsSo, EndsLinesSo, FinishesSo};
-ghost use Rattle.script_play.specs.Players.{play_of};
+ghost use Rattle.script_play.specs.inside.StoreWorlds.{IsSound};
+ghost use Rattle.script_play.specs.inside.Playing.{WritesSo, RespondedSo, FeedsSo, EndsLinesSo, FinishesSo, play_of};
 
 use crate::response::Response;
 use crate::stop::Stop;

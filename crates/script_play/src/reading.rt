@@ -1,9 +1,10 @@
 ghost use Rattle.std.specs.Prelude.{◌≡◌, ◌≤◌, ◌<◌, length, OnOk, Err};
 ghost use Rattle.aw_lists.specs.Faults.{Rose};
 ghost use Rattle.script_play.specs.declared.ending.Ending.TheVariants as ending;
-ghost use Rattle.script_play.specs.StoreWorlds.{IsSound};
-ghost use Rattle.script_play.specs.Players.{play_of};
-ghost use Rattle.script_play.specs.Reading.{ReadsFrom, EndsOrFails, streams, stop_ending};
+ghost use Rattle.script_play.specs.inside.StoreWorlds.{IsSound};
+ghost use Rattle.script_play.specs.inside.Playing.{play_of};
+ghost use Rattle.script_play.specs.inside.ScriptReading.{ReadsFrom, EndsOrFails, stop_ending};
+ghost use Rattle.script_play.specs.Runs.{streams};
 
 use crate::ending::Ending;
 use crate::player::Player;

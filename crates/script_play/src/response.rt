@@ -1,5 +1,5 @@
 ghost use Rattle.std.specs.Prelude.{◌≡◌};
-ghost use Rattle.script_play.specs.StoreWorlds.{refused_response, refusing_response};
+ghost use Rattle.script_play.specs.inside.StoreWorlds.{refused_response, refusing_response};
 
 use aw_cell::Text;
 use ses_report::Refusal;

@@ -2,8 +2,8 @@ ghost use Rattle.std.specs.Prelude.{◌≡◌, IfOk, OnErr};
 ghost use Rattle.ses_step.specs.declared.session.Known.{Known as KnownState};
 ghost use Rattle.ses_step.specs.Sessions as spec;
 ghost use Rattle.ses_step.specs.Sessions.{Sees, Allows, asked_in, asked_by};
-ghost use Rattle.script_play.specs.StoreWorlds.{definitions_in};
-ghost use Rattle.script_play.specs.Turning.{IsOpen, Asked, Replied, ReplyWants, Turned, TurnWants};
+ghost use Rattle.script_play.specs.inside.StoreWorlds.{definitions_in};
+ghost use Rattle.script_play.specs.inside.LineSteps.{IsOpen, Asked, Replied, ReplyWants, Turned, TurnWants};
 
 use aw_cell::Text;
 use aw_disk::Disk;
@@ -18,7 +18,7 @@ fn ask<D: Disk>(store: &mut Store<D>, entry: &Entry) -> Result<Reply, AllocError
     ensures allowed { IfOk result (λ reply. (known : KnownState) → Sees (definitions_in store.old) known → Allows (definitions_in store.old) known reply) }
     ensures err { OnErr result (store.new ≡ store.old) }
 {
-    store.stands();
+    store.recall_invariant();
     match store.act(entry) {
         Reply::NoMemory => Err(AllocError),
         reply => Ok(reply),

@@ -1,10 +1,10 @@
 ghost use Rattle.std.specs.Prelude.{◌≡◌, ◌<◌, min, IfOk, OnOk, OnErr, None, Some, is_none, length, Err};
-ghost use Rattle.aw_store.specs.Replay.{definitions_of};
+ghost use Rattle.aw_store.specs.StoredRecords.{definitions_of};
 ghost use Rattle.ses_step.specs.Sessions.{Sees};
 ghost use Rattle.script_world.specs.Worlds as spec;
-ghost use Rattle.script_play.specs.Drafts.{CanBeSpelled};
-ghost use Rattle.script_play.specs.StoreWorlds.{AllSee, IsSound, JoinsSo, definitions_in, own_known, own_place, placed};
-ghost use Rattle.script_play.specs.Turning.{TurnsAt, TurnWants, Answers, Wants, OpensSo, ClosesSo, FinishesWorldSo, RespondsSo, IsOpen, IsOfSession, command_means, session_means, named_means, line_means};
+ghost use Rattle.script_play.specs.inside.Drafts.{CanBeSpelled};
+ghost use Rattle.script_play.specs.inside.StoreWorlds.{AllSee, IsSound, JoinsSo, definitions_in, own_known, own_place, placed};
+ghost use Rattle.script_play.specs.inside.LineSteps.{TurnsAt, TurnWants, Answers, Wants, OpensSo, ClosesSo, FinishesWorldSo, RespondsSo, IsOpen, IsOfSession, command_means, session_means, named_means, line_means};
 
 use crate::draft::draft_definition;
 use crate::response::Response;
@@ -107,7 +107,7 @@ impl<D: Disk> StoreWorld<Store<D>> {
         requires unopened { definitions_of self.old.store.records ≡ None }
         ensures opens { OpensSo D.faults D.clock D.crash result self.old self.new }
     {
-        self.store.stands();
+        self.store.recall_invariant();
         let drafted = mem::replace(&mut self.drafted, Catalogue::new(alloc));
         match self.store.define(drafted) {
             Ok(()) => Ok(()),
@@ -117,8 +117,8 @@ impl<D: Disk> StoreWorld<Store<D>> {
         }
     }
 
-    /// Closes the definitions: the first time they are written.
-    fn close(&mut self, alloc: Global) -> Result<(), Stop>
+    /// Opens the store where it isn't open: the definitions are written, and closed so.
+    fn open_once(&mut self, alloc: Global) -> Result<(), Stop>
         requires { IsSound self.old }
         ensures closes { ClosesSo D.faults D.clock D.crash result self.old self.new }
     {
@@ -232,7 +232,7 @@ impl<D: Disk> StoreWorld<Store<D>> {
         requires { IsSound self.old }
         ensures responds { RespondsSo D.faults D.clock D.crash (named_means name command) result self.old self.new }
     {
-        match self.close(alloc) {
+        match self.open_once(alloc) {
             Ok(()) => match self.session_line(alloc, name, command) {
                 Ok(response) => Ok(Some(response)),
                 Err(_) => Err(Stop::NoMemory),

@@ -1,7 +1,5 @@
 -- Lemmas that are offered to the crates above.
 pub mod Acknowledged
-pub mod Alike
-pub mod Apart
 pub mod Appending
 pub mod Crash
 pub mod DiskFits
@@ -11,11 +9,13 @@ pub mod Fits
 pub mod Fixing
 pub mod Forks
 pub mod Moves
-pub mod Others
 pub mod Refusals
 pub mod Refused
-pub mod Running
 pub mod ScriptLaws
 pub mod Splitting
-pub mod Told
 pub mod Walk
+pub mod LearntOutcomes
+pub mod Simulation
+pub mod UnusedOutcomes
+pub mod OtherSessions
+pub mod NoSession

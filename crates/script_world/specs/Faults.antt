@@ -4,11 +4,7 @@ use Rattle.ses_report.specs.declared.refusal.Refusal.{Refusal}
 use Rattle.ses_report.specs.Reports.{Answer, answer_text}
 use Rattle.script_world.specs.Meaning.{Meaning}
 use Rattle.script_world.specs.Worlds.{World, Machine, Event, answered, world_after}
-use Rattle.script_world.specs.Outcomes.{Outcome, done, faulted, Attempt, OnDisk}
-
-abbrev pub has_faulted : Outcome → Bool
-has_faulted done = false
-has_faulted faulted = true
+use Rattle.script_world.specs.Outcomes.{Attempt, OnDisk, has_faulted}
 
 -- in how many of these attempts the disk failed
 abbrev pub faults_in : {R : Type 0} → List (Attempt R) → ℕ

@@ -1,11 +1,14 @@
 -- What the laws on events say, over any meaning.
-use Rattle.std.specs.Prelude.{◌≡◌, ◌≢◌, ◌||◌, ◌++◌, ◌⊎◌, ◌↔◌, ◌+◌, ℕ, true, cond, List, [], ◌∷◌, length, nat_lt, Option, None, Some, is_some, IsSome, if◌then◌else◌, slice_get}
+use Rattle.std.specs.Prelude.{◌≡◌, ◌≢◌, ◌||◌, ◌++◌, ◌↔◌, ◌+◌, ℕ, true, cond, List, [], ◌∷◌, length, nat_lt, None, Some, is_some, IsSome, if◌then◌else◌, slice_get, ◌==◌, Bool, not, map}
 use Rattle.std.specs.Option.{ForSome}
+use Rattle.std.specs.List.{list_all}
+use Rattle.std.specs.Str.Lines.{strip_carriage_return}
 use Rattle.script_world.specs.Meaning.{malformed, Meaning}
 use Rattle.ses_report.specs.declared.refusal.Refusal.{Refusal}
 use Rattle.ses_report.specs.Reports.{Answer, answer_text}
-use Rattle.script_world.specs.Worlds.{World, Machine, Event, line, script_ends, no_session, name_at, with_lines, refused_so, session_of, answered, text_of, any_refused, is_refused, world_after}
+use Rattle.script_world.specs.Worlds.{World, Machine, Event, line, script_ends, no_session, name_at, with_lines, refused_so, session_of, answered, text_of, any_refused, is_refused, world_after, Closes}
 use Rattle.script_world.specs.Outcomes.{Outcome, Writing, OnDisk, on_disk, by_list}
+use Rattle.script_world.specs.Script.{ended_lines, open_line}
 
 -- an event that isn't of a session leaves what the session holds
 abbrev pub KeepsOthers : {m : Meaning} {S : Type 0} → Machine m S → World m S → Event → Type 0
@@ -37,24 +40,6 @@ RefusalChangesNothing Same machine w event =
     is_refused (answered machine w event).answer ≡ true → ChangesNothing Same machine.opens w (answered machine w event).world
 
 -- ---- what is answered
-
--- the answers to these events, in order
-abbrev pub answers_of : {m : Meaning} {S : Type 0} → Machine m S → World m S → List Event → List (Option Answer)
-answers_of machine w [] = []
-answers_of machine w (event ∷ events) =
-    (answered machine w event).answer ∷ answers_of machine (answered machine w event).world events
-
--- none of these answers has a refusal
-abbrev pub NoneRefused : List (Option Answer) → Type 0
-NoneRefused answers = (at : ℕ) (answer : Answer) → slice_get answers at ≡ Some (Some answer) → answer.refusal ≡ None
-
--- one of them has
-pub record SomeRefused (answers : List (Option Answer)) : Type 0 where
-  pub at : ℕ
-  pub answer : Answer
-  pub refusal : Refusal
-  pub is : slice_get answers at ≡ Some (Some answer)
-  pub refuses : answer.refusal ≡ Some refusal
 
 -- the prefix of what a session's line is answered: its name as it was first written, or for a session past the 64th what the
 -- language has
@@ -92,10 +77,6 @@ abbrev pub MalformedIsRefused : {m : Meaning} {S : Type 0} → Machine m S → W
 MalformedIsRefused {m} machine w text =
     (refusal : Refusal) → m.form w.open_lines text ≡ malformed refusal → answered machine w (line text) ≡ refused_so no_session refusal (with_lines w [])
 
--- an event closes the definitions: a session's line, or the end of a script with any
-abbrev pub Closes : {m : Meaning} {S : Type 0} → World m S → Event → Type 0
-Closes {m} w event = IsSome (session_of w event) ⊎ ((event ≡ script_ends) × (m.is_any w.definitions ≡ true))
-
 -- they are closed exactly then
 abbrev pub ClosesExactly : {m : Meaning} {S : Type 0} → Machine m S → World m S → Event → Type 0
 ClosesExactly machine w event = w.shared ≡ None → IsSome (answered machine w event).world.shared ↔ Closes w event
@@ -106,3 +87,26 @@ ClosesExactly machine w event = w.shared ≡ None → IsSome (answered machine w
 abbrev pub TextFixesWorld : {m : Meaning} {R S : Type 0} → Writing m R → Machine m S → (ℕ → Outcome) → (ℕ → Outcome) → World m (OnDisk R S) → List Event → Type 0
 TextFixesWorld writing machine one other w events =
     text_of (on_disk writing one machine) w events ≡ text_of (on_disk writing other machine) w events → world_after (on_disk writing one machine) w events ≡ world_after (on_disk writing other machine) w events
+
+-- ---- the lines of a script
+-- what lines are in a script, each with the LF that ends it
+abbrev pub joined : List (List ℕ) → List ℕ
+joined [] = []
+joined (part ∷ parts) = (part ++ 10 ∷ []) ++ joined parts
+
+abbrev pub has_no_end : List ℕ → Bool
+has_no_end part = list_all (λ b. not (b == 10)) part
+
+-- A script is lines, each of them ended by a LF, and an open line behind the last LF. No LF stands within a line.
+pub record IsSplit (bytes : List ℕ) (parts : List (List ℕ)) (last : List ℕ) : Type 0 where
+  pub whole : bytes ≡ joined parts ++ last
+  pub ends : list_all has_no_end parts ≡ true
+  pub open_end : has_no_end last ≡ true
+
+-- these are its lines, each without the one CR before its LF
+pub record LinesAreSplit (bytes : List ℕ) : Type 0 where
+  pub parts : List (List ℕ)
+  pub last : List ℕ
+  pub split : IsSplit bytes parts last
+  pub ended : ended_lines bytes ≡ map strip_carriage_return parts
+  pub open_is : open_line bytes ≡ last

@@ -2,7 +2,7 @@ pub mod Meaning
 pub mod Script
 pub mod Worlds
 pub mod Outcomes
-pub mod Left
 pub mod Laws
 pub mod Faults
-pub mod Running
+pub mod LearntOutcomes
+pub mod SettledRuns

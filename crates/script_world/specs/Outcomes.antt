@@ -1,6 +1,7 @@
 -- The shared state on a disk that may fail, over any meaning and any records.
-use Rattle.std.specs.Prelude.{ℕ, List, [], ◌∷◌, ◌++◌, map, length, Option, None, Some, slice_index_or}
-use Rattle.std.specs.Option.{option_to_list}
+use Rattle.std.specs.Prelude.{ℕ, List, [], ◌∷◌, ◌++◌, map, length, Option, None, Some, slice_index_or, ◌≡◌, ◌⊎◌, take, slice_get, Bool, true, false}
+use Rattle.std.specs.Option.{option_to_list, ForSome}
+use Rattle.std.specs.List.{All}
 use Rattle.script_world.specs.Meaning.{Meaning}
 use Rattle.script_world.specs.Worlds.{Machine, World, first_sessions}
 
@@ -80,3 +81,62 @@ opening {m} names (Some definitions) state = record {
   names = names;
   sessions = first_sessions m 0 names;
 }
+
+-- ---- what a crash may leave of a run: the records with which the disk was opened, what was done, and at most one more
+
+-- two lists of records are the same list
+abbrev pub AreEqual : {R : Type 0} → List R → List R → Type 0
+AreEqual one other = one ≡ other
+
+module _ {R : Type 0} where
+  -- the record of an attempt that was done
+  abbrev pub settled_by : Outcome → R → List R
+  settled_by done attempted = attempted ∷ []
+  settled_by faulted attempted = []
+
+  -- the records of the attempts that were done, in order
+  abbrev pub done_records : List (Attempt R) → List R
+  done_records [] = []
+  done_records (attempt ∷ attempts) = settled_by attempt.outcome attempt.attempted ++ done_records attempts
+
+  -- what a disk holds where nothing is in doubt: the records that were there, and those of the attempts that were done
+  abbrev pub settled_records : List R → List (Attempt R) → List R
+  settled_records records made = records ++ done_records made
+
+  -- the record is of a faulted attempt after which none was done
+  pub record IsInDoubt (attempts : List (Attempt R)) (doubt : R) : Type 0 where
+    pub before : List (Attempt R)
+    pub after : List (Attempt R)
+    pub split : attempts ≡ before ++ (record { attempted = doubt; outcome = faulted }) ∷ after
+    pub none_done : done_records after ≡ []
+
+  -- the record is of the attempt that comes next
+  pub record IsBegun (next : Option (Attempt R)) (begun : R) : Type 0 where
+    pub attempt : Attempt R
+    pub comes : next ≡ Some attempt
+    pub is : begun ≡ attempt.attempted
+
+-- lists of records are compared by an argument
+module _ {R : Type 0} (Same : List R → List R → Type 0) where
+  -- after so many of these attempts
+  pub record MayLeave (ended : ℕ) (opened : List R) (attempts : List (Attempt R)) (records : List R) : Type 0 where
+    pub more : Option R
+    pub are : Same records (opened ++ done_records (take ended attempts) ++ option_to_list more)
+    pub one : ForSome more (λ r. IsBegun (slice_get attempts ended) r ⊎ IsInDoubt (take ended attempts) r)
+
+  -- after all of them
+  abbrev pub final : List R → List (Attempt R) → List R → Type 0
+  final opened attempts records = MayLeave (length attempts) opened attempts records
+
+  -- after an attempt that was done a crash leaves all that was done, and nothing else
+  abbrev pub LeavesAllDone : List R → List (Attempt R) → R → List R → Type 0
+  LeavesAllDone opened made attempted records =
+      let all = made ++ (record { attempted = attempted; outcome = done }) ∷ [] in
+      final opened all records → Same records (settled_records opened all)
+
+abbrev pub has_faulted : Outcome → Bool
+has_faulted done = false
+has_faulted faulted = true
+
+abbrev pub AreDone : List Outcome → Type 0
+AreDone outcomes = All (λ outcome. outcome ≡ done) outcomes

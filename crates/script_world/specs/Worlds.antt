@@ -1,5 +1,5 @@
 -- The world of a run over any meaning, and what an event of the script is answered in it and makes of it.
-use Rattle.std.specs.Prelude.{◌||◌, ◌+◌, ℕ, Bool, false, List, [], ◌∷◌, ◌++◌, map, length, nat_lt, Option, Some, None, Result, Ok, Err, is_some, unwrap_or, position, if◌then◌else◌, slice_index_or, slice_set}
+use Rattle.std.specs.Prelude.{◌||◌, ◌+◌, ℕ, Bool, false, List, [], ◌∷◌, ◌++◌, map, length, nat_lt, Option, Some, None, Result, Ok, Err, is_some, unwrap_or, position, if◌then◌else◌, slice_index_or, slice_set, ◌≡◌, ◌⊎◌, true, IsSome, slice_get}
 use Rattle.std.specs.Option.{option_map}
 use Rattle.aw_cell.specs.Names.{same_word}
 use Rattle.ses_report.specs.declared.refusal.Refusal.{Refusal}
@@ -208,3 +208,26 @@ last_events = block_ends ∷ script_ends ∷ []
 
 abbrev pub script_events : List ℕ → List Event
 script_events bytes = map line (script_lines bytes) ++ last_events
+
+-- ---- what is answered, and which events close the definitions
+-- the answers to these events, in order
+abbrev pub answers_of : {m : Meaning} {S : Type 0} → Machine m S → World m S → List Event → List (Option Answer)
+answers_of machine w [] = []
+answers_of machine w (event ∷ events) =
+    (answered machine w event).answer ∷ answers_of machine (answered machine w event).world events
+
+-- none of these answers has a refusal
+abbrev pub NoneRefused : List (Option Answer) → Type 0
+NoneRefused replies = (at : ℕ) (answer : Answer) → slice_get replies at ≡ Some (Some answer) → answer.refusal ≡ None
+
+-- one of them has
+pub record SomeRefused (replies : List (Option Answer)) : Type 0 where
+  pub at : ℕ
+  pub answer : Answer
+  pub refusal : Refusal
+  pub is : slice_get replies at ≡ Some (Some answer)
+  pub refuses : answer.refusal ≡ Some refusal
+
+-- an event closes the definitions: a session's line, or the end of a script with any
+abbrev pub Closes : {m : Meaning} {S : Type 0} → World m S → Event → Type 0
+Closes {m} w event = IsSome (session_of w event) ⊎ ((event ≡ script_ends) × (m.is_any w.definitions ≡ true))

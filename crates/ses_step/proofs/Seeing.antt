@@ -1,15 +1,15 @@
 -- What a view has of the objects of its definitions.
-use Rattle.std.specs.Prelude.{ℕ, zero, suc, ◌≡◌, ◌==◌, ◌||◌, Bool, true, false, cond, List, [], ◌∷◌, map, Option, Some, None, IfSome, IsSome, is_some, slice_get}
+use Rattle.std.specs.Prelude.{ℕ, zero, suc, ◌≡◌, Bool, true, false, cond, List, [], ◌∷◌, map, Option, Some, None, IfSome, IsSome, is_some, slice_get}
 use Rattle.std.specs.Option.{IsSomeAnd, option_map, option_and_then}
-use Rattle.std.proofs.Common.{◌∙◌, ap, sym, refl, subst, arith, eq-eqb}
+use Rattle.std.proofs.Common.{◌∙◌, ap, sym, refl, subst}
 use Rattle.aw_cell.specs.declared.cell.Kind.TheVariants.{Num, Int, Text, Bool as Truth, Slot}
 use Rattle.aw_schema.specs.declared.definition.Def.{Def}
 use Rattle.aw_schema.specs.declared.definition.DefKind.{DefKind}
 use Rattle.aw_schema.specs.declared.definition.DefKind.TheVariants.{Dimension, Relation, Valueset, Variable, Formula, Program, Aggmap}
 use Rattle.aw_schema.specs.Definitions.{is_kept}
-use Rattle.mv_view.specs.Each.{object_in, names, passes}
-use Rattle.mv_view.specs.ViewState.{ObjectView, ViewState, object_of, kind_of, kinds_of, kept_kind, kept_kinds, is_owned, owned_objects, AreOwned}
-use Rattle.mv_view.proofs.callers.Each.{names-numbers}
+use Rattle.mv_view.specs.Each.{object_in}
+use Rattle.mv_view.specs.ViewState.{ObjectView, ViewState, object_of, kind_of, kinds_of, kept_kind, kept_kinds, owned_objects, AreOwned}
+use Rattle.mv_view.proofs.callers.OwnedObjects.{owned-listed}
 use Rattle.ses_step.specs.declared.session.Known.{Known}
 use Rattle.ses_step.specs.Sessions.{Sees, seen_in, is_single, is_single_at}
 
@@ -96,21 +96,5 @@ single-seen definitions s object sees some single = single-of definitions object
 
 -- ---- the objects that a session owns
 
-owned-passes : (found : Option ObjectView) → passes is_owned found ≡ true → IsSomeAnd found (λ one. one.owned ≡ true)
-owned-passes None is = cc
-owned-passes (Some one) is = is
-
-or-right : (a b : Bool) → b ≡ true → (a || b) ≡ true
-or-right true b is = refl
-or-right false b is = is
-
-owned-named : (view : ViewState) (those : List ℕ) → ((object : ℕ) → names those object ≡ true → passes is_owned (object_of view object) ≡ true) → AreOwned view those
-owned-named view [] each = tt
-owned-named view (first ∷ rest) each = (
-  owned-passes (object_of view first) (each first (ap (λ b. b || names rest first) (eq-eqb first first refl))),
-  owned-named view rest (λ object named. each object (or-right (first == object) (names rest object) named)),
-)
-
 pub owned_listed : (view : ViewState) (those : List ℕ) → those ≡ owned_objects view → AreOwned view those
-owned_listed view those are =
-    subst (AreOwned view) (sym are) (owned-named view (owned_objects view) (λ object named. sym (names-numbers is_owned 0 view.objects object object (omega arith)) ∙ named))
+owned_listed view those are = subst (AreOwned view) (sym are) (owned-listed view)

@@ -1,2 +1,2 @@
 -- Lemmas that are offered to the crates above.
-pub mod Keeping
+pub mod ViewsOfDefinitions

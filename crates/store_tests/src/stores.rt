@@ -1,6 +1,6 @@
 ghost use Rattle.std.specs.Prelude.{IsTrue, IfSome};
 ghost use Rattle.aw_schema.specs.Definitions.{is_spellable};
-ghost use Rattle.aw_store.specs.Replay.{is_replayed, are_replayed};
+ghost use Rattle.aw_store.specs.StoredRecords.{is_replayed, are_replayed};
 
 use aw_body::{Body, BodyPatch, Change, Fresh, Seen};
 use aw_cell::{Cell, Kind, Text, is_name};

@@ -3,7 +3,7 @@ use Rattle.std.specs.Prelude.{ℕ, ◌≡◌, ◌≢◌, Bool, true, false, List
 use Rattle.std.specs.Cmp.Lexicographic.{pointwise, bytes_decides}
 use Rattle.std.proofs.Common.{◌∙◌, ap, sym, refl, subst}
 use Rattle.std.proofs.lemmas.Bool.{false≢true}
-use Rattle.aw_dim.specs.Values as dimension
+use Rattle.aw_dim.specs.DimensionState as dimension
 use Rattle.aw_dim.specs.SameValues.{same_values, same_values-Decides}
 use Rattle.aw_var.specs.CellMap.{Cells}
 use Rattle.aw_var.specs.CellPatch as cells
@@ -51,7 +51,7 @@ same-contents one other alike same =
 some-change : {A : Type 0} {patch changes : List A} {change : A} → patch ≡ change ∷ changes → patch ≡ [] → ⊥
 some-change is none = cc
 
-abbrev values_of : Body → dimension.Values
+abbrev values_of : Body → dimension.DimensionState
 values_of (Dim values) = values
 values_of (Rel contents) = record { entries = []; next = 0 }
 values_of (Set slots) = record { entries = []; next = 0 }
@@ -69,7 +69,7 @@ cells_of (Rel contents) = contents.cells
 cells_of (Set slots) = []
 cells_of (Var contents) = contents.cells
 
-values-newer : (older newer : dimension.Values) → MatchOption (difference (Dim older) (Dim newer)) (Dim older ≡ Dim newer) (MakesNewer (Dim older) (Dim newer))
+values-newer : (older newer : dimension.DimensionState) → MatchOption (difference (Dim older) (Dim newer)) (Dim older ≡ Dim newer) (MakesNewer (Dim older) (Dim newer))
 values-newer older newer = by (same_values older newer) refl
   where
     by : (same : Bool) → same_values older newer ≡ same → MatchOption (if same then None else Some (Values newer)) (Dim older ≡ Dim newer) (MakesNewer (Dim older) (Dim newer))

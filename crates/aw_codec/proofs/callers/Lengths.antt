@@ -7,7 +7,7 @@ use Rattle.std.proofs.lemmas.List.Concat.{length-flat_map}
 use Rattle.std.proofs.lemmas.List.Sums.{get_or-le-sum_by}
 use Rattle.aw_cell.specs.declared.cell.Cell.{Cell}
 use Rattle.aw_cell.specs.declared.cell.Cell.TheVariants.{Na, Num, Int, Text, Bool, Slot}
-use Rattle.aw_dim.specs.Values as dimension
+use Rattle.aw_dim.specs.DimensionState as dimension
 use Rattle.aw_schema.specs.declared.definition.Def.{Def}
 use Rattle.aw_schema.specs.declared.definition.DefKind.{DefKind}
 use Rattle.aw_schema.specs.declared.definition.DefKind.TheVariants.{Dimension, Relation, Valueset, Variable, Formula, Program, Aggmap}
@@ -45,7 +45,7 @@ definitions_length defs = length-flat_map spelling.definition defs ∙ (λ i. su
 pub record_length : (defs : List Def) → length (spelled (Definitions defs)) ≡ record_len defs
 record_length defs = omega (arith, definitions_length defs)
 
-pub values_length : (values : dimension.Values) → length (spelling.patch (Values values)) ≡ 9 + sum_by (λ entry. length (spelling.value entry)) values.entries
+pub values_length : (values : dimension.DimensionState) → length (spelling.patch (Values values)) ≡ 9 + sum_by (λ entry. length (spelling.value entry)) values.entries
 values_length values = omega (arith, length-flat_map spelling.value values.entries)
 
 pub slots_length : (slots : List ℕ) → length (spelling.patch (Slots slots)) ≡ 5 + 2 * length slots
@@ -63,7 +63,7 @@ parts_few : {X : Type 0} (f : X → List ℕ) → ((x : X) → 1 ≤ length (f x
 parts_few f some [] = omega arith
 parts_few f some (x ∷ xs) = omega (arith, some x, parts_few f some xs, length-append (f x) (flat_map f xs))
 
-cell_some : (cell : Cell) → 1 ≤ length (spelling.cell cell)
+pub cell_some : (cell : Cell) → 1 ≤ length (spelling.cell cell)
 cell_some Na = omega arith
 cell_some (Num units) = omega arith
 cell_some (Int value) = omega arith
@@ -71,7 +71,7 @@ cell_some (Text text) = omega arith
 cell_some (Bool truth) = omega arith
 cell_some (Slot slot) = omega arith
 
-pub values_few : (values : dimension.Values) → length values.entries ≤ length (spelling.patch (Values values))
+pub values_few : (values : dimension.DimensionState) → length values.entries ≤ length (spelling.patch (Values values))
 values_few values = omega (arith, parts_few spelling.value (λ entry. omega arith) values.entries)
 
 pub slots_few : (slots : List ℕ) → length slots ≤ length (spelling.patch (Slots slots))

@@ -6,7 +6,7 @@ use Rattle.std.specs.Ordering.{nat_cmp, is_lt}
 use Rattle.std.specs.Cmp.Lexicographic.{slice_cmp}
 use Rattle.std.specs.Option.{option_map}
 use Rattle.std.specs.declared.option.Option.{Option}
-use Rattle.aw_dim.specs.Values.{Entry, IsValueName}
+use Rattle.aw_dim.specs.DimensionState.{Entry, IsValueName}
 
 -- a name stands before another
 abbrev pub precedes : List ℕ → List ℕ → Bool

@@ -1,7 +1,7 @@
 -- What is known while the index of a dimension is made.
 use Rattle.std.specs.Prelude.{ℕ, true, ◌≡◌, ◌+◌, ◌<◌, ◌≤◌, List, length, slice_index}
 use Rattle.std.specs.List.{All}
-use Rattle.aw_dim.specs.Values.{Entry, IsValueName}
+use Rattle.aw_dim.specs.DimensionState.{Entry, IsValueName}
 use Rattle.aw_dim.specs.inside.Index.{precedes}
 
 -- by these names each slot stands before the next one

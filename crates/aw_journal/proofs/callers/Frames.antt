@@ -5,7 +5,7 @@ use Rattle.std.proofs.lemmas.List.{append-nil, take_at, drop_at}
 use Rattle.std.proofs.lemmas.Nat.{from_be_bytes-to_be_bytes_4}
 use Rattle.std.specs.Int.{from_be_bytes, w32}
 use Rattle.aw_journal.specs.Format.{head, frames, size_bytes, AreShort, Holds}
-use Rattle.aw_journal.specs.Left.{Left}
+use Rattle.aw_journal.specs.CrashPayloads.{Left}
 use Rattle.aw_journal.specs.Journal.{framed, HalfOpen}
 
 pub length-size_bytes : (size : ℕ) → length (size_bytes size) ≡ 4

@@ -26,11 +26,11 @@ use Rattle.mv_core.specs.Replies.{fits_object, commit_block, reply_of}
 use Rattle.mv_core.specs.SharedStep.{writes, workspace_after, table_after, IsAnswered}
 use Rattle.mv_core.specs.Workspace.{Workspace, Table, opened, table_of}
 use Rattle.mv_core.proofs.CallerLemmas.{table-workspace_after}
-use Rattle.aw_store.specs.Replay.{are_replayed, are_accepted_after, fits_latest, are_commits_after, can_replay, definitions_of, commits_of, workspace_of}
+use Rattle.aw_store.specs.StoredRecords.{are_replayed, are_accepted_after, fits_latest, are_commits_after, can_replay, definitions_of, commits_of, workspace_of}
 use Rattle.aw_store.specs.Stores.{StandFor, IsGranted}
 use Rattle.aw_store.proofs.callers.Following.{none-defined, can_replay-first, can_replay-commit, definitions_of-commit, stood_by-commit}
 use Rattle.aw_store.proofs.Granting.{AreWritable, writable, committable, none-refused}
-use Rattle.aw_store.proofs.callers.Standing.{fits-standing, length-standing}
+use Rattle.aw_store.proofs.callers.StandingObjects.{fits-standing, length-standing}
 
 -- ---- how many definitions there are
 

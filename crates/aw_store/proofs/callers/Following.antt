@@ -13,11 +13,10 @@ use Rattle.aw_codec.specs.Records.{spelled, rise_from}
 use Rattle.mv_core.specs.Following.{followed_by}
 use Rattle.mv_core.specs.Replies.{may_follow}
 use Rattle.mv_core.specs.Workspace.{Workspace, Table, opened, table_of}
-use Rattle.aw_store.specs.Replay.{are_replayed, are_accepted_after, fits_latest, are_commits_after, can_replay, definitions_of, commits_of, workspace_of, stood_by}
-use Rattle.aw_store.specs.Images.{IsStored}
-use Rattle.aw_store.specs.Replaying.{Leave, Taken}
+use Rattle.aw_store.specs.StoredRecords.{are_replayed, are_accepted_after, fits_latest, are_commits_after, can_replay, definitions_of, commits_of, workspace_of, stood_by, IsStored}
+use Rattle.aw_store.specs.inside.ReplaySteps.{Leave, Taken}
 use Rattle.aw_store.proofs.callers.Spellings.{found, IsNext-spelled}
-use Rattle.aw_store.proofs.callers.Standing.{refused-fits, none-worn}
+use Rattle.aw_store.proofs.callers.StandingObjects.{refused-fits, none-worn}
 
 pub not_both : (b : Bool) → b ≡ true → b ≡ false → ⊥
 not_both b holds fails = cc
@@ -84,7 +83,7 @@ definitions_of-commit [] changes = refl
 definitions_of-commit (Definitions definitions ∷ records) changes = refl
 definitions_of-commit (Commit others ∷ records) changes = refl
 
-commits_of-commit : (records : List Decoded) (changes : List Change) → commits_of (records ++ Commit changes ∷ []) ≡ commits_of records ++ changes ∷ []
+pub commits_of-commit : (records : List Decoded) (changes : List Change) → commits_of (records ++ Commit changes ∷ []) ≡ commits_of records ++ changes ∷ []
 commits_of-commit [] changes = refl
 commits_of-commit (Definitions definitions ∷ records) changes = commits_of-commit records changes
 commits_of-commit (Commit others ∷ records) changes = ap (λ (rest : List (List Change)). others ∷ rest) (commits_of-commit records changes)
@@ -97,7 +96,7 @@ stood_by-commit records changes owners =
     let w : Workspace = record { definitions = unwrap_or there []; history = history; owners = owners } in
     table_of (bodies_of (unwrap_or there [])) w) (definitions_of-commit records changes) (commits_of-commit records changes))
 
-length-commits_of : (records : List Decoded) → length (commits_of records) ≤ length records
+pub length-commits_of : (records : List Decoded) → length (commits_of records) ≤ length records
 length-commits_of [] = omega arith
 length-commits_of (Definitions definitions ∷ records) = omega (arith, length-commits_of records)
 length-commits_of (Commit changes ∷ records) = omega (arith, length-commits_of records)

@@ -8,11 +8,10 @@ use Rattle.aw_codec.specs.declared.record.Decoded.{Decoded}
 use Rattle.aw_codec.specs.declared.record.Decoded.TheVariants.{Definitions}
 use Rattle.aw_codec.specs.Records.{spelled, IsRecord}
 use Rattle.aw_journal.specs.Format.{Holds}
-use Rattle.aw_journal.specs.Left.{Left}
-use Rattle.aw_store.specs.Replay.{can_replay}
-use Rattle.aw_store.specs.Images.{IsStored, AreRecords, HoldsRecords, LeftRecords}
-use Rattle.aw_store.specs.Recorded.{record_from, IsNext, IsNextInDoubt, IsLast, AreSpellings}
-use Rattle.aw_store.specs.Replaying.{last_bytes}
+use Rattle.aw_journal.specs.CrashPayloads.{Left}
+use Rattle.aw_store.specs.StoredRecords.{can_replay, IsStored, AreRecords, HoldsRecords, LeftRecords}
+use Rattle.aw_store.specs.inside.PayloadRecords.{record_from, IsNext, IsNextInDoubt, IsLast, AreSpellings}
+use Rattle.aw_store.specs.inside.ReplaySteps.{last_bytes}
 use Rattle.aw_codec.proofs.CallerLemmas.{whole_of_record}
 
 -- a record is found by its spelling

@@ -1,11 +1,13 @@
 -- Finite maps to cells over keys in any order: what they have after each change, and that two are one where they agree.
-use Rattle.std.proofs.Common.{◌≡◌, Bool, true, false, cond, not, ◌&&◌, List, [], ◌∷◌, map, Option, Some, None, unwrap_or, refl, sym, ap, subst, ◌∙◌, Ordering, Less, Equal, Greater, ◌↔◌}
+use Rattle.std.proofs.Common.{◌≡◌, Bool, true, false, cond, not, ◌&&◌, List, [], ◌∷◌, map, Option, Some, None, unwrap_or, refl, sym, ap, subst, ◌∙◌, Ordering, Less, Equal, Greater, ◌↔◌, ℕ, suc, arith}
 use Rattle.std.proofs.Math.Dec.{T}
+use Rattle.std.proofs.lemmas.Bool.Decides.{Decides-ltb}
 use Rattle.std.specs.List.{list_all, filter}
 use Rattle.std.specs.Ordering.{eq_by_cmp, is_eq, is_lt}
 use Rattle.std.specs.Cmp.{IsTotalOrder, alike_right, eq_by_cmp_equiv}
 use Rattle.std.specs.FinMap.{find, put, is_sorted, IsAntisymmetric}
 use Rattle.std.specs.FinMap.Entries.{where_key, below_all, by_order, find-put, find-where_key, is_sorted-put, is_sorted-where_key, same_entries}
+use Rattle.std.specs.Prelude.{nat_lt}
 use Rattle.aw_cell.specs.declared.cell.Cell.{Cell}
 use Rattle.aw_cell.specs.declared.cell.Cell.TheVariants.{Na, Num, Int, Text, Bool as Truth, Slot}
 use Rattle.aw_cell.specs.Cell.{same_cell}
@@ -13,6 +15,7 @@ use Rattle.aw_cell.specs.SameCell.{same_cell-Decides}
 use Rattle.aw_page.specs.Fitting.{is_na}
 use Rattle.aw_var.specs.CellMap.{IsMapBy, cell_by, without_by, set_by}
 use Rattle.aw_var.specs.CellPatch.{overwritten_by, composed_by, differ_by, taken_away_by, difference_by}
+use Rattle.aw_lists.specs.Coord.{AreSlots}
 
 pub both_true : (a b : Bool) → (a && b) ≡ true → (a ≡ true) × (b ≡ true)
 both_true true b h = (refl, h)
@@ -270,3 +273,7 @@ module _ {K : Type 0} {R : K → K → Ordering} (o : IsTotalOrder R) where
       λ none. same_map a b f g (λ q. same_where_none a b q (sym (find-difference q a b f g) ∙ ap (λ x. find R q x) none)),
       λ same. sym (is_difference a b [] f g refl (λ q. sym (none_where_same _ _ (ap (λ x. cell_by R x q) same)))),
     )
+
+pub slots_all : (slots : List ℕ) → AreSlots slots → list_all (λ slot. nat_lt slot 65536) slots ≡ true
+slots_all [] each = refl
+slots_all (x ∷ xs) each = and_true (nat_lt x 65536) (list_all (λ slot. nat_lt slot 65536) xs) ((Decides-ltb x 65536).1 (each 0 0 (omega arith))) (slots_all xs (λ k d h. each (suc k) d (omega arith)))

@@ -105,7 +105,7 @@ kind-seen def None false is same = sym (ap (λ b. cond b (Some def.kind) None) i
 kind-seen def (Some one) true is same = sym (ap (λ b. cond b (Some def.kind) None) is)
 kind-seen def (Some one) false is same = absurd (true≢false (same ∙ ap (λ b. is_some (cond b (Some def.kind) None)) is))
 
-kinds-seen : (at : ℕ) (definitions : List Def) (fresh : List Fresh) → ((k object : ℕ) → at + k ≡ object → is_some (rule.latest_of fresh object) ≡ is_some (object_in (kept_kinds definitions) k)) → map (option_map kind_of) (rule.seen_from at definitions fresh) ≡ kept_kinds definitions
+pub kinds-seen : (at : ℕ) (definitions : List Def) (fresh : List Fresh) → ((k object : ℕ) → at + k ≡ object → is_some (rule.latest_of fresh object) ≡ is_some (object_in (kept_kinds definitions) k)) → map (option_map kind_of) (rule.seen_from at definitions fresh) ≡ kept_kinds definitions
 kinds-seen at [] fresh same = refl
 kinds-seen at (def ∷ definitions) fresh same =
     ap (λ (k : Option DefKind). k ∷ map (option_map kind_of) (rule.seen_from (at + 1) definitions fresh)) (kind-seen def (rule.latest_of fresh at) (is_kept def.kind) refl (same 0 at (omega arith)))

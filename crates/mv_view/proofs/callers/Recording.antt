@@ -12,7 +12,7 @@ use Rattle.aw_cell.specs.declared.cell.Cell.{Cell}
 use Rattle.aw_cell.specs.declared.cell.Cell.TheVariants.{Na}
 use Rattle.aw_cell.specs.declared.cell.Kind.{Kind}
 use Rattle.aw_cell.specs.declared.cell.Kind.TheVariants.{Slot}
-use Rattle.aw_dim.specs.Values.{Values}
+use Rattle.aw_dim.specs.DimensionState.{DimensionState}
 use Rattle.aw_dim.specs.SameValues.{same_values}
 use Rattle.aw_schema.specs.declared.definition.DefKind.{DefKind}
 use Rattle.aw_schema.specs.declared.definition.DefKind.TheVariants.{Dimension, Relation, Valueset, Variable, Formula, Program, Aggmap}
@@ -105,7 +105,7 @@ fitting-changes slots kind contents pair pairs form are recorded rising =
 same-patch : (one other : BodyPatch) → Some one ≡ Some other → one ≡ other
 same-patch one other e = cc
 
-fits-values : (same : Bool) (older newer : Values) (patch : BodyPatch) → older.next ≤ newer.next → cond same None (Some (ValuesPatch newer)) ≡ Some patch → fits patch Dimension (Dim older) ≡ true
+fits-values : (same : Bool) (older newer : DimensionState) (patch : BodyPatch) → older.next ≤ newer.next → cond same None (Some (ValuesPatch newer)) ≡ Some patch → fits patch Dimension (Dim older) ≡ true
 fits-values true older newer patch least is = cc
 fits-values false older newer patch least is =
     subst (λ (p : BodyPatch). fits p Dimension (Dim older) ≡ true) (same-patch (ValuesPatch newer) patch is) (le-leb older.next newer.next least)

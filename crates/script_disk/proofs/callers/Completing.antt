@@ -4,11 +4,10 @@ use Rattle.std.proofs.Common.{sym, subst, inl, inr, arith}
 use Rattle.std.proofs.lemmas.Bool.{true≢false}
 use Rattle.aw_journal.specs.Format.{IsUnformatted}
 use Rattle.aw_codec.specs.declared.record.Decoded.{Decoded}
-use Rattle.aw_store.specs.Images.{HoldsRecords, IsDamaged}
+use Rattle.aw_store.specs.StoredRecords.{HoldsRecords, IsDamaged}
 use Rattle.aw_store.proofs.CallerLemmas.{reads_records_one_way}
 use Rattle.script_disk.specs.Dumped.{EndsDump, CompletesDump}
-use Rattle.script_disk.specs.Formatted.{AreFormatted}
-use Rattle.script_disk.specs.Opened.{status_of, IsUnopened, ExplainsContent}
+use Rattle.script_disk.specs.WhyUnopened.{AreFormatted, status_of, IsUnopened, ExplainsContent}
 use Rattle.script_disk.specs.declared.opening.Unopened.{Unopened}
 use Rattle.script_disk.specs.declared.opening.Unopened.TheVariants.{Unformatted, Damaged, DiskFault, NoMemory, SinkFault}
 

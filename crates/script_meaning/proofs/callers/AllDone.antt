@@ -6,10 +6,9 @@ use Rattle.std.proofs.lemmas.List.Elements.{All-nil, All-cons, All-head, All-tai
 use Rattle.std.proofs.lemmas.List.Sums.{sum_by-append}
 use Rattle.aw_codec.specs.declared.record.Decoded.{Decoded}
 use Rattle.script_world.specs.Worlds.{Event, script_events}
-use Rattle.script_world.specs.Outcomes.{Outcome, done, faulted, among}
-use Rattle.script_world.specs.Faults.{has_faulted}
-use Rattle.script_world.proofs.callers.Told.{all_done}
-use Rattle.script_meaning.specs.AllDone.{AreDone, IsAsWithNone}
+use Rattle.script_world.specs.Outcomes.{Outcome, done, faulted, among, has_faulted, AreDone}
+use Rattle.script_world.proofs.callers.UnusedOutcomes.{all_done}
+use Rattle.script_meaning.specs.AllDone.{IsAsWithNone}
 use Rattle.script_meaning.specs.Language.{store_writing, history_machine}
 use Rattle.script_meaning.specs.Transcript.{opening, transcript}
 

@@ -21,8 +21,7 @@ use Rattle.aw_schema.specs.RecordLength.{fields_len, definition_len, record_len}
 use Rattle.aw_codec.specs.declared.record.Decoded.TheVariants.{Definitions}
 use Rattle.aw_codec.specs.Records.{IsDefinition, AreInRange}
 use Rattle.aw_codec.proofs.callers.Lengths.{record_length}
-use Rattle.aw_store.specs.Images.{IsStored}
-use Rattle.aw_store.specs.Replay.{is_replayed, are_replayed, are_accepted_after}
+use Rattle.aw_store.specs.StoredRecords.{IsStored, is_replayed, are_replayed, are_accepted_after}
 use Rattle.ses_report.specs.declared.refusal.Refusal.{Refusal}
 use Rattle.ses_report.specs.Refusals as report
 use Rattle.ses_step.specs.declared.definition.Definition.{Definition}

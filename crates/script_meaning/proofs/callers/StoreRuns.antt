@@ -4,14 +4,14 @@ use Rattle.std.specs.Option.{option_map}
 use Rattle.std.proofs.Common.{◌∙◌, ap, ap₂, sym, arith}
 use Rattle.aw_schema.specs.declared.definition.Def.{Def}
 use Rattle.aw_codec.specs.declared.record.Decoded.{Decoded}
-use Rattle.aw_store.specs.Replay.{definitions_of, stood_by}
+use Rattle.aw_store.specs.StoredRecords.{definitions_of, stood_by}
 use Rattle.aw_store.specs.Stores.{StoreState}
 use Rattle.script_world.specs.Worlds.{World, Event, with_shared, first_sessions}
 use Rattle.script_world.specs.Outcomes as disk
 use Rattle.script_world.specs.Outcomes.{Outcome, Attempt, all_attempts, attempts_of, used}
 use Rattle.script_meaning.specs.Language.{language, ObjectsWorld}
 use Rattle.script_meaning.specs.StoreRuns.{store_disk, store_opening, StoreRun, IsRun}
-use Rattle.script_meaning.proofs.callers.Standing.{are_alike}
+use Rattle.script_meaning.proofs.callers.ObjectsSimulation.{are_alike}
 
 -- all attempts of a world over a store
 pub made-all : {D : Type 0} (opened : Option Decoded) (tried : List (Attempt Decoded)) (shared : Option (StoreState D)) → (shared ≡ None → (opened ≡ None) × (tried ≡ [])) → attempts_of (option_map (store_disk opened tried) shared) ≡ all_attempts opened tried

@@ -12,8 +12,7 @@ use Rattle.script_world.specs.Worlds.{World, Machine, answers, name_at, answered
 use Rattle.script_world.specs.Outcomes.{Outcome}
 use Rattle.script_world.proofs.callers.Moves.{if-holds}
 use Rattle.script_meaning.specs.Language.{language, begun_of, form_of, HistoryDisk, HistoryWorld, by_history}
-use Rattle.script_meaning.specs.TakingTurns.{with_turn, LinesTakeTurns}
-use Rattle.script_meaning.specs.Turns.{turn_from, turn}
+use Rattle.script_meaning.specs.Turns.{with_turn, LinesTakeTurns, turn_from, turn}
 
 module _ {S : Type 0} (machine : Machine language S) (w : World language S) (who : ℕ) (shared : S) (is_open : w.shared ≡ Some shared) where
   pub commanded-turn : (own : Command) → settled machine (commanded w shared who (Some own)) ≡ with_turn w who (turn machine w.definitions w.names shared (own_session w who) own)

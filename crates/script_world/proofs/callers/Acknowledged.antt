@@ -3,8 +3,7 @@ use Rattle.std.specs.Prelude.{◌≡◌, ◌++◌, List, [], ◌∷◌, length, 
 use Rattle.std.specs.Option.{option_to_list}
 use Rattle.std.proofs.Common.{◌∙◌, ap, sym, subst, ⊎_elim, append-nil, arith, take_all}
 use Rattle.std.proofs.lemmas.Option.{none-some, same_Some}
-use Rattle.script_world.specs.Outcomes.{done, faulted, Attempt}
-use Rattle.script_world.specs.Left.{settled_by, done_records, settled_records, IsInDoubt, LeavesAllDone}
+use Rattle.script_world.specs.Outcomes.{done, faulted, Attempt, settled_by, done_records, settled_records, IsInDoubt, LeavesAllDone}
 
 empty-behind : {A : Type 0} (xs ys : List A) → xs ++ ys ≡ [] → ys ≡ []
 empty-behind [] ys is = is

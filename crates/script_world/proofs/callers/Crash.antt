@@ -7,8 +7,8 @@ use Rattle.std.proofs.lemmas.Bool.{lt-ltb, le-ltb}
 use Rattle.std.proofs.lemmas.Option.{none-some, same_Some, slice_get_within}
 use Rattle.script_world.specs.Meaning.{Meaning}
 use Rattle.script_world.specs.Worlds.{World, Machine, Event, world_after}
-use Rattle.script_world.specs.Outcomes.{Outcome, done, faulted, Attempt, Writing, OnDisk, on_disk, as_done, attempts_of, used}
-use Rattle.script_world.specs.Left.{AreEqual, done_records, IsInDoubt, IsBegun, MayLeave, attempts, IsSettledByRun, LeavesARun}
+use Rattle.script_world.specs.Outcomes.{Outcome, done, faulted, Attempt, Writing, OnDisk, on_disk, as_done, attempts_of, used, AreEqual, done_records, IsInDoubt, IsBegun, MayLeave}
+use Rattle.script_world.specs.SettledRuns.{attempts, IsSettledByRun, LeavesARun}
 use Rattle.script_world.proofs.callers.Forks.{done_records-append, at_end, Parted, forks}
 
 -- ---- the outcomes up to an attempt, this one's, and faults

@@ -4,8 +4,7 @@ use Rattle.std.specs.Option.{option_to_list}
 use Rattle.std.proofs.Common.{◌∙◌, ap, sym, subst, append_assoc, append-nil}
 use Rattle.script_world.specs.Meaning.{ask, Meaning}
 use Rattle.script_world.specs.Worlds.{Machine}
-use Rattle.script_world.specs.Outcomes.{Outcome, done, faulted, Attempt, Writing, OnDisk, ended_so, written, on_disk, as_done, attempts_of}
-use Rattle.script_world.specs.Left.{done_records}
+use Rattle.script_world.specs.Outcomes.{Outcome, done, faulted, Attempt, Writing, OnDisk, ended_so, written, on_disk, as_done, attempts_of, done_records}
 use Rattle.script_world.proofs.callers.Forks.{done_records-append}
 use Rattle.script_world.proofs.callers.Fits.{Lawful}
 

@@ -6,8 +6,8 @@ use Rattle.ses_report.specs.declared.refusal.Refusal.{Refusal}
 use Rattle.ses_report.specs.Reports.{Answer, answer_text}
 use Rattle.script_world.specs.Meaning.{Begun, said, ask, malformed, Meaning}
 use Rattle.script_world.specs.Worlds.{World, Machine, Event, Answered, name_at, silent, refused_so, with_definitions, own_session, begun_so, commanded, shared_of, turned, settled, answered}
-use Rattle.script_world.specs.Outcomes.{Outcome, done, faulted, Attempt, Writing, OnDisk, ended_so, written, on_disk}
-use Rattle.script_world.specs.Faults.{has_faulted, faults_in, faults_of, refuses_so, tells, SeesFaults, FaultsAreSeen}
+use Rattle.script_world.specs.Outcomes.{Outcome, done, faulted, Attempt, Writing, OnDisk, ended_so, written, on_disk, has_faulted}
+use Rattle.script_world.specs.Faults.{faults_in, faults_of, refuses_so, tells, SeesFaults, FaultsAreSeen}
 use Rattle.script_world.proofs.callers.Walk.{Why, it_is_late, it_is_crowded, of_definition, of_form, walk}
 
 faults_in-push : {R : Type 0} (made : List (Attempt R)) (last : Attempt R) → faults_in (made ++ last ∷ []) ≡ faults_in made + cond (has_faulted last.outcome) 1 0

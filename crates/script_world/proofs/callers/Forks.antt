@@ -5,10 +5,9 @@ use Rattle.std.proofs.lemmas.Bool.{leb-true, leb-false}
 use Rattle.std.proofs.lemmas.Option.{none-some, same_Some}
 use Rattle.script_world.specs.Meaning.{Meaning}
 use Rattle.script_world.specs.Worlds.{World, Machine, Event, Answered, Planned, answers, asks, turned, planned, settled, answered, world_after}
-use Rattle.script_world.specs.Outcomes.{Outcome, done, faulted, Attempt, Writing, OnDisk, ended_so, written, on_disk, used}
-use Rattle.script_world.specs.Left.{settled_by, done_records}
+use Rattle.script_world.specs.Outcomes.{Outcome, done, faulted, Attempt, Writing, OnDisk, ended_so, written, on_disk, used, settled_by, done_records}
 use Rattle.script_world.proofs.callers.Moves.{Keeps, answered-keeps, lifts, AsksWith}
-use Rattle.script_world.proofs.callers.Told.{asks-used, ended-longer}
+use Rattle.script_world.proofs.callers.UnusedOutcomes.{asks-used, ended-longer}
 
 pub done_records-append : {R : Type 0} (made more : List (Attempt R)) → done_records (made ++ more) ≡ done_records made ++ done_records more
 done_records-append [] more = refl

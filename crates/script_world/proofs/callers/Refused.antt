@@ -6,8 +6,7 @@ use Rattle.std.proofs.lemmas.Option.{none-some, same_Some}
 use Rattle.ses_report.specs.declared.refusal.Refusal.{Refusal}
 use Rattle.ses_report.specs.Reports.{Answer}
 use Rattle.script_world.specs.Meaning.{Meaning}
-use Rattle.script_world.specs.Laws.{answers_of, NoneRefused, SomeRefused}
-use Rattle.script_world.specs.Worlds.{World, Machine, Event, is_refused, answered, any_refused}
+use Rattle.script_world.specs.Worlds.{answers_of, NoneRefused, SomeRefused, World, Machine, Event, is_refused, answered, any_refused}
 
 neither : (one other : Bool) → (one || other) ≡ false → (one ≡ false) × (other ≡ false)
 neither false false none = (refl, refl)

@@ -4,7 +4,8 @@ use Rattle.std.specs.List.{list_all, onto_first}
 use Rattle.std.specs.Str.Lines.{strip_carriage_return}
 use Rattle.std.proofs.Common.{◌∙◌, ap, ap₂}
 use Rattle.std.proofs.lemmas.Bool.{eqb-true}
-use Rattle.script_world.specs.Script.{parts_of, ended_parts, last_part, has_no_end, IsSplit, LinesAreSplit}
+use Rattle.script_world.specs.Script.{parts_of, ended_parts, last_part}
+use Rattle.script_world.specs.Laws.{has_no_end, IsSplit, LinesAreSplit}
 
 ended-all : (parts : List (List ℕ)) (last : List ℕ) → ended_parts (parts ++ last ∷ []) ≡ map strip_carriage_return parts
 ended-all [] last = refl

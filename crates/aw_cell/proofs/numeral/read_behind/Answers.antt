@@ -1,4 +1,4 @@
-use Rattle.aw_cell.proofs.Reading.{behind_faults}
+use Rattle.aw_cell.proofs.NumeralSteps.{behind_faults}
 use Rattle.aw_cell.proofs.numeral.read_behind.Goals as goal
 
 pub returns-in-Err : goal.returns-in-Err

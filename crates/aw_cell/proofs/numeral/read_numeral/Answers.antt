@@ -1,4 +1,4 @@
-use Rattle.aw_cell.proofs.Reading.{minus_first, no_minus_first, numeral_with_sign, numeral_without_sign}
+use Rattle.aw_cell.proofs.NumeralSteps.{minus_first, no_minus_first, numeral_with_sign, numeral_without_sign}
 use Rattle.aw_cell.proofs.numeral.read_numeral.Goals as goal
 
 pub returns-in-Some : goal.returns-in-Some

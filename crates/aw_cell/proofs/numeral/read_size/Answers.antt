@@ -2,7 +2,7 @@ use Rattle.std.specs.Prelude.{[], ◌+◌, take, drop}
 use Rattle.std.proofs.lemmas.List.{take_rest}
 use Rattle.aw_cell.specs.Numeral.{SpellsParts, SpellsSize}
 use Rattle.aw_cell.proofs.Numerals.{unpointed, unpointed_back, pointed_at, pointed_back}
-use Rattle.aw_cell.proofs.Reading.{ReadsCount-alike}
+use Rattle.aw_cell.proofs.NumeralSteps.{ReadsCount-alike}
 use Rattle.aw_cell.proofs.numeral.read_size.Goals as goal
 
 pub returns-in-None : goal.returns-in-None

@@ -2,7 +2,7 @@ use Rattle.std.specs.Prelude.{◌<◌, length, All}
 use Rattle.std.proofs.Common.{arith}
 use Rattle.std.proofs.lemmas.Result.{on_ok_weaker}
 use Rattle.aw_codec.specs.Records.{IsDefinition}
-use Rattle.aw_codec.proofs.Accepted.{accepted_few}
+use Rattle.aw_schema.proofs.callers.AcceptedCatalogues.{accepted_few}
 use Rattle.aw_codec.proofs.encoding.push_catalogue.Goals as goal
 
 pub overflow_cast-len : goal.overflow_cast-len

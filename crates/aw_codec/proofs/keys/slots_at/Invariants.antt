@@ -2,7 +2,7 @@ use Rattle.std.specs.Prelude.{◌≡◌, ◌-◌, [], nat_le, length, take}
 use Rattle.std.specs.Option.{option_copied}
 use Rattle.std.specs.Int.{w16}
 use Rattle.aw_codec.specs.Formats.{number, many}
-use Rattle.aw_codec.specs.Reading.{reading}
+use Rattle.aw_codec.specs.Parsing.{reading}
 use Rattle.aw_codec.specs.RecordFormat.{least_slot}
 use Rattle.aw_codec.proofs.keys.slots_at.Given as goal
 

@@ -2,7 +2,7 @@ use Rattle.std.specs.Prelude.{◌≡◌, [], Ok}
 use Rattle.std.proofs.Common.{subst}
 use Rattle.std.proofs.lemmas.Result.{err_from_is_err_and}
 use Rattle.aw_codec.specs.Formats.{many}
-use Rattle.aw_codec.specs.Reading.{reading, Fails}
+use Rattle.aw_codec.specs.Parsing.{reading, Fails}
 use Rattle.aw_codec.specs.RecordFormat.{keyed_cell}
 use Rattle.aw_codec.proofs.Readings.{next_part, no_part, all_parts}
 use Rattle.aw_codec.proofs.patches.keyed_cells_at.Goals as goal

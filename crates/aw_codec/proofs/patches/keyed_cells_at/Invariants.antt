@@ -1,6 +1,6 @@
 use Rattle.std.specs.Prelude.{◌≡◌, ◌-◌, []}
 use Rattle.aw_codec.specs.Formats.{many}
-use Rattle.aw_codec.specs.Reading.{reading}
+use Rattle.aw_codec.specs.Parsing.{reading}
 use Rattle.aw_codec.specs.RecordFormat.{keyed_cell}
 use Rattle.aw_codec.proofs.patches.keyed_cells_at.Given as goal
 

@@ -1,7 +1,7 @@
 use Rattle.std.specs.Prelude.{[]}
 use Rattle.std.proofs.lemmas.Result.{err_from_is_err_and}
 use Rattle.aw_codec.specs.Formats.{many}
-use Rattle.aw_codec.specs.Reading.{reading}
+use Rattle.aw_codec.specs.Parsing.{reading}
 use Rattle.aw_codec.specs.RecordFormat.{other_slot}
 use Rattle.aw_codec.proofs.Readings.{next_part, no_part, all_parts}
 use Rattle.aw_codec.proofs.slots.other_slots_at.Goals as goal

@@ -1,6 +1,6 @@
 use Rattle.std.specs.Prelude.{◌≡◌, ◌-◌, [], length}
 use Rattle.aw_codec.specs.Formats.{many}
-use Rattle.aw_codec.specs.Reading.{reading}
+use Rattle.aw_codec.specs.Parsing.{reading}
 use Rattle.aw_codec.specs.RecordFormat.{other_slot}
 use Rattle.aw_codec.specs.inside.Seen.{AreMarked, is_slot}
 use Rattle.aw_codec.proofs.slots.other_slots_at.Given as goal

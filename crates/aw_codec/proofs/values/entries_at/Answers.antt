@@ -1,9 +1,9 @@
 use Rattle.std.specs.Prelude.{ℕ, ◌≤◌, List, [], Result, Ok, Err, IfOk}
 use Rattle.std.proofs.Common.{arith}
-use Rattle.aw_dim.specs.Values.{Entry, IsDimension}
+use Rattle.aw_dim.specs.DimensionState.{Entry, IsDimension}
 use Rattle.aw_codec.specs.declared.record.BadRecord.{BadRecord}
 use Rattle.aw_codec.specs.Formats.{many}
-use Rattle.aw_codec.specs.Reading.{Gives, reading}
+use Rattle.aw_codec.specs.Parsing.{Gives, reading}
 use Rattle.aw_codec.specs.RecordFormat.{value}
 use Rattle.aw_codec.proofs.Parts.{AreBytes}
 use Rattle.aw_codec.proofs.DimensionRead.{dimension_read}

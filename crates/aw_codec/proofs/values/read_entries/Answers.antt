@@ -4,9 +4,9 @@ use Rattle.std.specs.HashSet.{contains}
 use Rattle.std.proofs.Common.{ap, subst, sym, ◌∙◌}
 use Rattle.std.proofs.lemmas.List.{length-set}
 use Rattle.std.proofs.lemmas.Result.{err_from_is_err_and}
-use Rattle.aw_dim.specs.Values.{Entry}
+use Rattle.aw_dim.specs.DimensionState.{Entry}
 use Rattle.aw_codec.specs.Formats.{many}
-use Rattle.aw_codec.specs.Reading.{reading, Fails}
+use Rattle.aw_codec.specs.Parsing.{reading, Fails}
 use Rattle.aw_codec.specs.RecordFormat.{value}
 use Rattle.aw_codec.specs.inside.Seen.{AreMarked, AreHeld, has_slot, same_bytes}
 use Rattle.aw_codec.proofs.Held.{value_marked}

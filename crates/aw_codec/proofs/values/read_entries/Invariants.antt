@@ -1,7 +1,7 @@
 use Rattle.std.specs.Prelude.{◌≡◌, ◌-◌, [], length}
 use Rattle.std.specs.HashSet.{contains}
 use Rattle.aw_codec.specs.Formats.{many}
-use Rattle.aw_codec.specs.Reading.{reading}
+use Rattle.aw_codec.specs.Parsing.{reading}
 use Rattle.aw_codec.specs.RecordFormat.{value}
 use Rattle.aw_codec.specs.inside.Seen.{AreMarked, AreHeld, has_slot, same_bytes}
 use Rattle.aw_codec.proofs.values.read_entries.Given as goal

@@ -1,7 +1,8 @@
 use Rattle.std.proofs.Common.{rules, arith, ◌≡◌, ◌<◌, length, Some, slice_get, get_or}
 use Rattle.aw_codec.specs.Records.{IsDefinition}
 use Rattle.aw_codec.specs.Spellings as spelling
-use Rattle.aw_codec.proofs.Accepted.{accepted_few, spellable_at, def_at}
+use Rattle.aw_codec.proofs.Accepted.{spellable_at, def_at}
+use Rattle.aw_schema.proofs.callers.AcceptedCatalogues.{accepted_few}
 use Rattle.aw_codec.proofs.Kept.{kept_more, spelled_more}
 use Rattle.aw_codec.proofs.writing.push_definitions.Goals as goal
 

@@ -1,6 +1,6 @@
 use Rattle.std.proofs.Common.{ℕ, List, ◌≡◌, Some, slice_get, slice_set, length, refl, ap, rules}
 use Rattle.std.proofs.lemmas.Option.{slice_get_read, slice_get_within}
-use Rattle.aw_dim.specs.Values.{Entry}
+use Rattle.aw_dim.specs.DimensionState.{Entry}
 use Rattle.aw_dim.proofs.Editing.{one_element}
 use Rattle.aw_dim.specs.inside.Index.{HasBut, IsNameIndex}
 use Rattle.aw_dim.proofs.Changes.{rename-placed, rename-listed, rename-has, rename-unused, rename-texts}

@@ -1,7 +1,7 @@
 use Rattle.std.proofs.Common.{◌≡◌, ◌<◌, ◌≤◌, ◌+◌, ◌++◌, [], ◌∷◌, ◌∙◌, insert, length, length-append, ap, arith, rules}
 use Rattle.std.proofs.lemmas.List.Edits.{length-insert}
 use Rattle.aw_dim.specs.inside.Index.{ArePlaced, Has, HasBut, IsNameIndex, IsIndexed}
-use Rattle.aw_dim.specs.Values.{Entry}
+use Rattle.aw_dim.specs.DimensionState.{Entry}
 use Rattle.aw_dim.proofs.Changes.{fit, below_from_fit, put-fit, put-before, put-listed, put-has, put-unused, put-texts}
 use Rattle.aw_dim.proofs.Valid.{few}
 use Rattle.aw_dim.proofs.change.put.Goals as goal

@@ -1,7 +1,7 @@
 use Rattle.std.proofs.Common.{ℕ, List, ◌≡◌, ◌<◌, ◌≤◌, ◌+◌, ◌∙◌, Some, insert, remove, slice_get, length, refl, ap, arith, rules}
 use Rattle.std.proofs.lemmas.List.Edits.{length-remove}
 use Rattle.std.proofs.lemmas.Option.{slice_get_read}
-use Rattle.aw_dim.specs.Values.{Entry}
+use Rattle.aw_dim.specs.DimensionState.{Entry}
 use Rattle.aw_dim.proofs.Changes.{below_from_fit, shift-fit, shift-before}
 use Rattle.aw_dim.proofs.Editing.{one_element}
 use Rattle.aw_dim.proofs.change.shift.Goals as goal

@@ -1,7 +1,7 @@
 use Rattle.std.proofs.Common.{ℕ, List, ◌≡◌, ◌<◌, ◌≤◌, ◌∙◌, Some, remove, slice_get, slice_index_or, refl, length, ap, arith, rules}
 use Rattle.std.proofs.lemmas.List.Edits.{length-remove}
 use Rattle.std.proofs.lemmas.Option.{slice_get_read}
-use Rattle.aw_dim.specs.Values.{Entry}
+use Rattle.aw_dim.specs.DimensionState.{Entry}
 use Rattle.aw_dim.proofs.Changes.{fit, below_from_fit, take-fit, take-before, take-listed, take-texts}
 use Rattle.aw_dim.proofs.Valid.{few}
 use Rattle.aw_dim.proofs.change.take.Goals as goal

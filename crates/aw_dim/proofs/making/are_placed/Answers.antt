@@ -1,6 +1,6 @@
 use Rattle.std.proofs.Common.{ℕ, List, ◌≡◌, ◌<◌, ◌∙◌, Some, slice_get, get_or, length, refl, sym, ap, arith, rules}
 use Rattle.std.proofs.lemmas.Option.{slice_get_read, slice_get-get_or}
-use Rattle.aw_dim.specs.Values.{Entry}
+use Rattle.aw_dim.specs.DimensionState.{Entry}
 use Rattle.aw_dim.proofs.Placing.{found_step}
 use Rattle.aw_dim.proofs.making.are_placed.Goals as goal
 

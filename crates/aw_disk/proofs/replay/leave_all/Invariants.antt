@@ -1,5 +1,5 @@
 use Rattle.std.proofs.Common.{◌≡◌, drop}
-use Rattle.aw_disk.specs.Replay.{left_by}
+use Rattle.aw_disk.specs.inside.PickedImages.{left_by}
 use Rattle.aw_disk.proofs.replay.leave_all.Given as goal
 
 abbrev pub invariant-loop-step : goal.invariant-loop-step

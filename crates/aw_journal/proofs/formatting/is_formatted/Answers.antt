@@ -1,6 +1,6 @@
 use Rattle.std.proofs.Common.{◌≡◌, length, arith}
 use Rattle.std.proofs.lemmas.Option.{IfSome_then}
-use Rattle.aw_journal.proofs.Reading.{formatted_read}
+use Rattle.aw_journal.proofs.FramesRead.{formatted_read}
 use Rattle.aw_journal.proofs.formatting.is_formatted.Goals as goal
 
 pub returns-then-count-eq9-clause-ok : goal.returns-then-count-eq9-clause-ok

@@ -1,5 +1,5 @@
 use Rattle.std.proofs.Common.{◌≡◌, get_or, drop, arith, rules}
-use Rattle.aw_journal.proofs.Reading.{gate_read}
+use Rattle.aw_journal.proofs.FramesRead.{gate_read}
 use Rattle.aw_journal.proofs.gate.gate_of.Goals as goal
 
 pub returns-in-1 : goal.returns-in-1

@@ -1,6 +1,6 @@
 use Rattle.std.proofs.Common.{◌≡◌, ℕ, ◌+◌, ◌-◌, min, length, take, drop, List, sym, subst, ap, ◌∙◌, arith}
-use Rattle.aw_journal.specs.Reading.{Begins, IsFrame}
-use Rattle.aw_journal.proofs.Reading.{frame_read, lent_back, IfSome_both}
+use Rattle.aw_journal.specs.inside.FramesRead.{Begins, IsFrame}
+use Rattle.aw_journal.proofs.FramesRead.{frame_read, lent_back, IfSome_both}
 use Rattle.aw_journal.proofs.read.read_frame.Goals as goal
 
 pub returns-clause-ok : goal.returns-clause-ok

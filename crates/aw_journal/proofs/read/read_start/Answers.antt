@@ -1,6 +1,6 @@
 use Rattle.std.proofs.Common.{◌≡◌, length, sym, ◌∙◌, arith}
 use Rattle.std.proofs.lemmas.Option.{IfSome_then}
-use Rattle.aw_journal.proofs.Reading.{start_short, start_other, start_read, head_is, head_is_not}
+use Rattle.aw_journal.proofs.FramesRead.{start_short, start_other, start_read, head_is, head_is_not}
 use Rattle.aw_journal.proofs.read.read_start.Goals as goal
 use Rattle.aw_journal.proofs.read.read_start.Goals.{then-count-lt9-via-then-count-lt9, then-count-lt9-via-else-count-lt9+then-ne}
 

@@ -1,10 +1,10 @@
 use Rattle.std.proofs.Common.{◌≡◌, ℕ, ◌+◌, ◌<◌, ◌^◌, IfSome, List, [], ◌∷◌, ◌++◌, length, ap, sym, subst, ◌∙◌, arith}
 use Rattle.aw_journal.specs.Format.{frames, placed, AreShort}
-use Rattle.aw_journal.specs.Reading.{HasRead}
+use Rattle.aw_journal.specs.inside.FramesRead.{HasRead}
 use Rattle.aw_journal.specs.declared.payload.Payload.{Payload}
 use Rattle.aw_journal.proofs.callers.Frames.{length-frames-push, AreShort-push}
 use Rattle.aw_journal.proofs.Loading.{placed-push, frame_taken, frame_explains}
-use Rattle.aw_journal.proofs.Reading.{IfSome_both}
+use Rattle.aw_journal.proofs.FramesRead.{IfSome_both}
 use Rattle.aw_journal.proofs.read.take_frame.Goals as goal
 
 pub returns-in-Err-clause-err : goal.returns-in-Err-clause-err

@@ -1,5 +1,5 @@
 use Rattle.std.proofs.Common.{◌-◌}
-use Rattle.aw_journal.specs.Reading.{Progress}
+use Rattle.aw_journal.specs.inside.FramesRead.{Progress}
 use Rattle.aw_journal.specs.Undisturbed.{Undisturbed}
 use Rattle.aw_journal.proofs.read.take_frames.Given as goal
 

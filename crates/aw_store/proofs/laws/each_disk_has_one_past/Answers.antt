@@ -1,5 +1,5 @@
 use Rattle.std.proofs.Common.{arith}
-use Rattle.aw_store.proofs.Reading.{reads_records, reads_records_one_way}
+use Rattle.aw_store.proofs.UniqueRecords.{reads_records, reads_records_one_way}
 use Rattle.aw_store.proofs.laws.each_disk_has_one_past.Goals as goal
 
 pub returns-clause-reads : goal.returns-clause-reads

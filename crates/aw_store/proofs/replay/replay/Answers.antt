@@ -1,6 +1,6 @@
 use Rattle.std.proofs.Common.{◌≡◌, ◌<◌, ◌^◌, length, map, take, Ok, arith, ap, subst, ◌∙◌, refl}
-use Rattle.aw_store.specs.Recorded.{record_from}
-use Rattle.aw_store.specs.Replaying.{bytes_of, Taken, IsNoNext}
+use Rattle.aw_store.specs.inside.PayloadRecords.{record_from}
+use Rattle.aw_store.specs.inside.ReplaySteps.{bytes_of, Taken, IsNoNext}
 use Rattle.aw_store.proofs.Payloads.{length-front, next_taken, stopped}
 use Rattle.aw_store.proofs.replay.replay.Goals as goal
 

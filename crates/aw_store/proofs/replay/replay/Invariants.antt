@@ -1,5 +1,5 @@
 use Rattle.std.proofs.Common.{map, take}
-use Rattle.aw_store.specs.Replaying.{bytes_of, AreReplayed}
+use Rattle.aw_store.specs.inside.ReplaySteps.{bytes_of, AreReplayed}
 use Rattle.aw_store.proofs.replay.replay.Given as goal
 
 abbrev pub invariant-loop-payload : goal.invariant-loop-payload

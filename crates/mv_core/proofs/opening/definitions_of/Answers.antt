@@ -1,12 +1,13 @@
 use Rattle.std.proofs.Common.{◌≤◌, ◌∙◌, List, [], ◌∷◌, ◌++◌, length, arith, sym, ap, subst, Vec, Global}
 use Rattle.aw_schema.specs.declared.definition.Def.{Def}
-use Rattle.mv_core.proofs.FirstObjects.{accepted-most, copied-next, copied-all, never-none}
+use Rattle.mv_core.proofs.FirstObjects.{copied-next, copied-all, never-none}
 use Rattle.mv_core.proofs.opening.definitions_of.Goals as goal
 use Rattle.mv_core.proofs.opening.definitions_of.Goals.{in-Some+in_ok-copied+in_ok-push, in_default}
+use Rattle.aw_schema.proofs.callers.AcceptedCatalogues.{accepted_few}
 
 pub overflow_cast-at : goal.overflow_cast-at
 overflow_cast-at c =
-    omega (arith, c.loop-at-test.true, c.len-len.ensures.value, accepted-most c.args.catalogue.now c.len-len.ensures.accepted)
+    omega (arith, c.loop-at-test.true, c.len-len.ensures.value, accepted_few c.args.catalogue.now c.len-len.ensures.accepted)
 
 pub loop-at-preserved : goal.loop-at-preserved
 loop-at-preserved c =
@@ -18,4 +19,4 @@ loop-at-preserved c =
 
 pub returns-clause-most : goal.returns-clause-most
 returns-clause-most c =
-    subst (λ (definitions : List Def). length definitions ≤ 4096) (sym (copied-all c.args.catalogue.now c.loop-at.definitions.items c.loop-at.at (omega (arith, c.loop-at-test.false, c.len-len.ensures.value)) c.loop-at.invariant)) (accepted-most c.args.catalogue.now c.len-len.ensures.accepted)
+    subst (λ (definitions : List Def). length definitions ≤ 4096) (sym (copied-all c.args.catalogue.now c.loop-at.definitions.items c.loop-at.at (omega (arith, c.loop-at-test.false, c.len-len.ensures.value)) c.loop-at.invariant)) (accepted_few c.args.catalogue.now c.len-len.ensures.accepted)

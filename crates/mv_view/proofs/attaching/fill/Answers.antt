@@ -6,7 +6,7 @@ use Rattle.aw_body.specs.Bodies.{IsBodyOf}
 use Rattle.mv_view.specs.ViewState.{ObjectView, IsOf, AreSeen, HaveForms, kept_kinds}
 use Rattle.mv_view.specs.Rules.{seen}
 use Rattle.mv_view.proofs.Renewing.{seen-none, seen-more, length-seen, HaveForms-last, kept-definition}
-use Rattle.mv_view.proofs.Keeping.{AreSeen-set, AreSeen-none}
+use Rattle.mv_view.proofs.ChangedPlaces.{AreSeen-set, AreSeen-none}
 use Rattle.mv_view.proofs.attaching.fill.Goals as goal
 
 pub loop-latest-init : goal.loop-latest-init

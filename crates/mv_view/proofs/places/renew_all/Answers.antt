@@ -7,7 +7,7 @@ use Rattle.mv_view.specs.Each.{each_from, only}
 use Rattle.mv_view.specs.ViewState.{ObjectView, AreSeen, HaveForms, kind_of}
 use Rattle.mv_view.specs.Rules.{renewed, latest_of, with_latest}
 use Rattle.mv_view.proofs.callers.Fitting.{kinds-each, kind-cond}
-use Rattle.mv_view.proofs.Keeping.{seen-renewed}
+use Rattle.mv_view.proofs.ChangedPlaces.{seen-renewed}
 use Rattle.mv_view.proofs.Renewing.{renew-more, renew-none, HaveForms-last}
 use Rattle.mv_view.proofs.places.renew_all.Goals as goal
 

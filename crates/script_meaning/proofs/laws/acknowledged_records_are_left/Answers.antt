@@ -1,5 +1,5 @@
 use Rattle.script_world.proofs.callers.Acknowledged.{leaves_all_done}
-use Rattle.script_meaning.specs.SameRecords.{SameRecords}
+use Rattle.script_meaning.specs.Transcript.{SameRecords}
 use Rattle.script_meaning.proofs.laws.acknowledged_records_are_left.Goals as goal
 
 pub returns : goal.returns

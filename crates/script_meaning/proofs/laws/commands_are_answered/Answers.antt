@@ -1,4 +1,4 @@
-use Rattle.script_meaning.proofs.Answering.{commands_answered, assignments_done}
+use Rattle.script_meaning.proofs.CommandAnswers.{commands_answered, assignments_done}
 use Rattle.script_meaning.proofs.laws.commands_are_answered.Goals as goal
 
 pub returns-clause-in_order : goal.returns-clause-in_order

@@ -1,4 +1,4 @@
-use Rattle.script_meaning.proofs.Reached.{leaves_a_run_of, leaves_what_opens}
+use Rattle.script_meaning.proofs.ReachableWorlds.{leaves_a_run_of, leaves_what_opens}
 use Rattle.script_meaning.proofs.laws.crashes_leave_what_a_run_settles.Goals as goal
 
 pub returns-clause-settled : goal.returns-clause-settled

@@ -1,5 +1,5 @@
 use Rattle.script_meaning.proofs.DefinitionLaws.{closed-answer, definition-answered, formless-answer}
-use Rattle.script_meaning.proofs.Wholeness.{always-whole}
+use Rattle.script_meaning.proofs.OneLineDefinitions.{always-whole}
 use Rattle.script_meaning.specs.Transcript.{world_at}
 use Rattle.script_meaning.proofs.laws.definitions_are_answered.Goals as goal
 

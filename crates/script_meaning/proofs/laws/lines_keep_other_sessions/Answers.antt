@@ -1,4 +1,4 @@
-use Rattle.script_world.proofs.callers.Others.{keeps_others}
+use Rattle.script_world.proofs.callers.OtherSessions.{keeps_others}
 use Rattle.script_meaning.specs.Language.{by_history}
 use Rattle.script_meaning.proofs.laws.lines_keep_other_sessions.Goals as goal
 

@@ -1,4 +1,4 @@
-use Rattle.script_world.proofs.callers.Apart.{leaves_apart, malformed_is_refused, closes_exactly}
+use Rattle.script_world.proofs.callers.NoSession.{leaves_apart, malformed_is_refused, closes_exactly}
 use Rattle.script_meaning.specs.Language.{by_history}
 use Rattle.script_meaning.proofs.laws.lines_of_no_session_stay_apart.Goals as goal
 

@@ -1,4 +1,4 @@
-use Rattle.script_meaning.proofs.Reached.{always_match, always_end}
+use Rattle.script_meaning.proofs.ReachableWorlds.{always_match, always_end}
 use Rattle.script_meaning.proofs.laws.records_match.Goals as goal
 
 pub returns-clause-so_far : goal.returns-clause-so_far

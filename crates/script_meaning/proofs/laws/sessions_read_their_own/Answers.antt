@@ -1,5 +1,5 @@
-use Rattle.script_meaning.proofs.Reading.{attach_gives_latest, own_commands_move, shows_what_is_read}
-use Rattle.script_meaning.proofs.ReadingOn.{read_its_own}
+use Rattle.script_meaning.proofs.SnapshotReads.{attach_gives_latest, own_commands_move, shows_what_is_read}
+use Rattle.script_meaning.proofs.SnapshotReadsOfRuns.{read_its_own}
 use Rattle.script_meaning.proofs.laws.sessions_read_their_own.Goals as goal
 
 pub returns-clause-attached : goal.returns-clause-attached

@@ -1,4 +1,4 @@
-use Rattle.script_world.proofs.callers.Told.{list_told_once, goes_on}
+use Rattle.script_world.proofs.callers.UnusedOutcomes.{list_told_once, goes_on}
 use Rattle.script_meaning.specs.Language.{store_writing, history_machine}
 use Rattle.script_meaning.specs.Transcript.{opening}
 use Rattle.script_meaning.proofs.laws.text_is_told_once.Goals as goal

@@ -1,7 +1,7 @@
 use Rattle.std.proofs.Common.{◌≡◌, ◌≤◌, ◌+◌, ◌-◌, length, take, arith}
 use Rattle.std.proofs.lemmas.List.{length-take}
-use Rattle.script_play.specs.Players.{play_of}
-use Rattle.script_play.proofs.Taken.{read_more, reads_stopped, reads_end, reads_broken, reads_full}
+use Rattle.script_play.specs.inside.Playing.{play_of}
+use Rattle.script_play.proofs.ScriptReading.{read_more, reads_stopped, reads_end, reads_broken, reads_full}
 use Rattle.script_play.proofs.reading.read.Goals as goal
 
 pub returns-in-Err-clause-reads : goal.returns-in-Err-clause-reads

@@ -1,7 +1,8 @@
 use Rattle.std.proofs.Common.{◌≤◌}
-use Rattle.script_play.specs.StoreWorlds.{IsSound}
-use Rattle.script_play.specs.Players.{play_of}
-use Rattle.script_play.specs.Reading.{HasReadFrom, streams}
+use Rattle.script_play.specs.inside.StoreWorlds.{IsSound}
+use Rattle.script_play.specs.inside.Playing.{play_of}
+use Rattle.script_play.specs.inside.ScriptReading.{HasReadFrom}
+use Rattle.script_play.specs.Runs.{streams}
 use Rattle.script_play.proofs.reading.read.Given as goal
 
 -- all that was taken is played, and the room is what may still come

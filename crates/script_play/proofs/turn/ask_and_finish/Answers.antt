@@ -1,4 +1,4 @@
-use Rattle.script_play.proofs.Turning.{replied_so}
+use Rattle.script_play.proofs.LineSteps.{replied_so}
 use Rattle.script_play.proofs.turn.ask_and_finish.Goals as goal
 
 pub returns-in-Ok-finish-clause-ok : goal.returns-in-Ok-finish-clause-ok

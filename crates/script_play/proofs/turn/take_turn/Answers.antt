@@ -1,5 +1,5 @@
-use Rattle.script_play.specs.StoreWorlds.{definitions_in}
-use Rattle.script_play.proofs.Turning.{said_turned, replied_turned, asked_wants}
+use Rattle.script_play.specs.inside.StoreWorlds.{definitions_in}
+use Rattle.script_play.proofs.LineSteps.{said_turned, replied_turned, asked_wants}
 use Rattle.script_play.proofs.turn.take_turn.Goals as goal
 
 pub returns-in-Said-clause-ok : goal.returns-in-Said-clause-ok

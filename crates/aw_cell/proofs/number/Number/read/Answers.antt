@@ -1,4 +1,4 @@
-use Rattle.aw_cell.proofs.Reading.{gives_the_number, refuses_other_texts, refuses_past_the_range}
+use Rattle.aw_cell.proofs.NumeralSteps.{gives_the_number, refuses_other_texts, refuses_past_the_range}
 use Rattle.aw_cell.proofs.number.Number.read.Goals as goal
 
 pub returns-clause-value : goal.returns-clause-value

@@ -1,5 +1,5 @@
 use Rattle.std.proofs.Common.{◌≡◌, None, rules}
-use Rattle.aw_dim.specs.Values.{slot_of}
+use Rattle.aw_dim.specs.DimensionState.{slot_of}
 use Rattle.aw_dim.proofs.LookUps.{name-unused}
 use Rattle.aw_dim.proofs.dimension.Dimension.add.Goals as goal
 

@@ -1,5 +1,5 @@
 use Rattle.std.proofs.Common.{true, false, ◌≡◌, map, length, refl, arith, rules, IsPermutation, IsSortedBy}
-use Rattle.aw_dim.specs.Values.{Entry}
+use Rattle.aw_dim.specs.DimensionState.{Entry}
 use Rattle.aw_dim.specs.inside.Index.{ArePlaced, IsIndexed, indexed_name, precedes}
 use Rattle.aw_dim.specs.inside.Making.{AreListed, RiseBy}
 use Rattle.aw_dim.proofs.Made.{listed, below_from_all, fit_from_valid, none_placed, rises, name_index, texts_from_all}

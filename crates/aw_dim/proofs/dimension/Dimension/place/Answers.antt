@@ -1,5 +1,5 @@
 use Rattle.std.proofs.Common.{◌≡◌, ◌∙◌, Some, sym, ap, is_some, rules}
-use Rattle.aw_dim.specs.Values.{Entry, position_of}
+use Rattle.aw_dim.specs.DimensionState.{Entry, position_of}
 use Rattle.aw_dim.proofs.LookUps.{position-indexed, is_some-position, stands-at}
 use Rattle.aw_dim.proofs.dimension.Dimension.place.Goals as goal
 

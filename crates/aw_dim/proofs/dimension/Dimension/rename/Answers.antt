@@ -1,5 +1,5 @@
 use Rattle.std.proofs.Common.{◌≡◌, None, length, slice_set, rules}
-use Rattle.aw_dim.specs.Values.{slot_of}
+use Rattle.aw_dim.specs.DimensionState.{slot_of}
 use Rattle.aw_dim.specs.inside.Index.{IsAt}
 use Rattle.aw_dim.proofs.Changes.{fit}
 use Rattle.aw_dim.proofs.LookUps.{name-unused}

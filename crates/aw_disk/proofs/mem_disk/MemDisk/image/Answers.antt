@@ -4,12 +4,12 @@ use Rattle.std.proofs.lemmas.List.{take_all}
 use Rattle.aw_disk.specs.declared.step.Pick.TheVariants.{Kept}
 use Rattle.aw_disk.specs.declared.step.Pick.{Pick}
 use Rattle.aw_disk.specs.declared.step.Step.{Step}
-use Rattle.aw_disk.specs.Held.{all_begin_inside}
+use Rattle.aw_disk.specs.inside.MemDiskSteps.{all_begin_inside}
 use Rattle.aw_disk.specs.MemDisk.{MemDiskState, content_after}
 use Rattle.aw_disk.specs.Covered.{synced_count}
-use Rattle.aw_disk.specs.Replay.{left_by}
+use Rattle.aw_disk.specs.inside.PickedImages.{left_by}
 use Rattle.aw_disk.proofs.Picking.{made, IsPicked-made, made-left}
-use Rattle.aw_disk.proofs.Replaying.{all_begin_inside-append}
+use Rattle.aw_disk.proofs.PickedImages.{all_begin_inside-append}
 use Rattle.aw_disk.proofs.mem_disk.MemDisk.image.Goals as goal
 
 -- the image after the steps up to a place and those behind it

@@ -1,10 +1,10 @@
 use Rattle.std.proofs.Common.{◌≡◌, ◌∷◌, [], ◌++◌, ◌∙◌, ◌≤◌, length, ap, sym, subst, arith, Some}
 use Rattle.aw_disk.specs.declared.step.Step.TheVariants.{Write}
-use Rattle.aw_disk.specs.Held.{started}
+use Rattle.aw_disk.specs.inside.MemDiskSteps.{started}
 use Rattle.aw_disk.specs.Images.{overwritten}
 use Rattle.aw_disk.specs.MemDisk.{MemDiskState, content_of}
 use Rattle.aw_disk.proofs.Steps.{content_after-write}
-use Rattle.aw_disk.proofs.Replaying.{all_begin_inside-write}
+use Rattle.aw_disk.proofs.PickedImages.{all_begin_inside-write}
 use Rattle.aw_disk.proofs.mem_disk.MemDisk.place.Goals as goal
 
 pub invariant_of-self-2 : goal.invariant_of-self-2

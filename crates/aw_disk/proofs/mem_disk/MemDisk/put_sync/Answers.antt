@@ -1,6 +1,6 @@
 use Rattle.std.proofs.Common.{◌∙◌, sym}
-use Rattle.aw_disk.specs.Held.{started}
-use Rattle.aw_disk.proofs.Replaying.{all_begin_inside-sync}
+use Rattle.aw_disk.specs.inside.MemDiskSteps.{started}
+use Rattle.aw_disk.proofs.PickedImages.{all_begin_inside-sync}
 use Rattle.aw_disk.proofs.Steps.{content_after-sync}
 use Rattle.aw_disk.proofs.mem_disk.MemDisk.put_sync.Goals as goal
 

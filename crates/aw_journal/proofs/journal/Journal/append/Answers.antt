@@ -7,7 +7,7 @@ use Rattle.aw_journal.specs.Passed.{Passed-wider, Passed-then}
 use Rattle.aw_journal.specs.declared.journal.Journal.TheInside.{Inside}
 use Rattle.aw_journal.proofs.Bytes.{appended}
 use Rattle.aw_journal.proofs.callers.Frames.{HalfOpen-left, framed-frame}
-use Rattle.aw_journal.proofs.Standing.{at_rest, not_in_doubt, on_ok}
+use Rattle.aw_journal.proofs.JournalImages.{at_rest, not_in_doubt, on_ok}
 use Rattle.aw_journal.proofs.Steps.{behind-inside, behind-torn, behind-written, gate-inside, gate-torn, gate-opened, landed}
 use Rattle.aw_journal.proofs.journal.Journal.append.Given.{Over}
 use Rattle.aw_journal.proofs.journal.Journal.append.Goals as goal

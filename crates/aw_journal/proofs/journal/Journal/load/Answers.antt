@@ -1,6 +1,6 @@
 use Rattle.std.proofs.Common.{◌≡◌, Some, IfSome, sym, subst, ◌∙◌}
 use Rattle.std.proofs.lemmas.Option.{IfSome_then}
-use Rattle.aw_journal.specs.Reading.{HasRead}
+use Rattle.aw_journal.specs.inside.FramesRead.{HasRead}
 use Rattle.aw_journal.specs.declared.gate.Gate.TheVariants.{Closed}
 use Rattle.aw_journal.proofs.Answering.{found, explained}
 use Rattle.aw_journal.proofs.Loading.{read_all}

@@ -4,7 +4,7 @@ use Rattle.aw_journal.specs.Journal.{HalfOpen, Stands, framed}
 use Rattle.aw_journal.specs.Passed.{Passed-wider, Passed-none}
 use Rattle.aw_journal.proofs.Bytes.{repaired}
 use Rattle.aw_journal.proofs.callers.Frames.{HalfOpen-left}
-use Rattle.aw_journal.proofs.Standing.{Stands-left, on_ok, opens}
+use Rattle.aw_journal.proofs.JournalImages.{Stands-left, on_ok, opens}
 use Rattle.aw_journal.proofs.Steps.{gate-inside, gate-torn, gate-closed, landed}
 use Rattle.aw_journal.specs.declared.doubt.Doubt.TheVariants.{Opening}
 use Rattle.aw_journal.proofs.journal.Journal.repair.Goals as goal

@@ -1,7 +1,7 @@
 use Rattle.std.proofs.Common.{map, inl, Some}
-use Rattle.aw_journal.specs.Left.{Left}
+use Rattle.aw_journal.specs.CrashPayloads.{Left}
 use Rattle.aw_journal.specs.Passed.{Passed-wider, Passed-then}
-use Rattle.aw_store.specs.Recorded.{record_from, IsNext}
+use Rattle.aw_store.specs.inside.PayloadRecords.{record_from, IsNext}
 use Rattle.aw_store.proofs.callers.Spellings.{LeftRecords-left, left_writing, settled_more, IsLast-next}
 use Rattle.aw_store.proofs.record_log.RecordLog.write.Goals as goal
 

@@ -1,6 +1,6 @@
 use Rattle.aw_body.specs.KeptBodies.{first_of}
 use Rattle.std.proofs.Common.{unwrap_or, []}
-use Rattle.aw_store.specs.Replay.{definitions_of, workspace_of}
+use Rattle.aw_store.specs.StoredRecords.{definitions_of, workspace_of}
 use Rattle.aw_store.proofs.Taking.{follows-commit, left-commit}
 use Rattle.aw_store.proofs.replay.Replayed.commit.Goals as goal
 

@@ -1,5 +1,5 @@
 use Rattle.std.proofs.Common.{◌≡◌, true, false, ap, sym, ◌∙◌, []}
-use Rattle.aw_store.specs.Replay.{are_replayed, are_accepted_after}
+use Rattle.aw_store.specs.StoredRecords.{are_replayed, are_accepted_after}
 use Rattle.aw_store.proofs.Taking.{there-already, unreplayed, replayed-as, defined}
 use Rattle.aw_store.proofs.replay.Replayed.define.Goals as goal
 

@@ -1,8 +1,7 @@
-use Rattle.std.proofs.Common.{false, arith}
+use Rattle.std.proofs.Common.{false, arith, ◌++◌, ◌∷◌, []}
 use Rattle.aw_store.proofs.callers.Following.{answered, Taken-next}
 use Rattle.aw_store.proofs.Taking.{stored, too_long, no_record, cannot_follow}
-use Rattle.aw_store.specs.Replay.{can_replay}
-use Rattle.std.proofs.Common.{◌++◌, ◌∷◌, []}
+use Rattle.aw_store.specs.StoredRecords.{can_replay}
 use Rattle.aw_store.proofs.replay.Replayed.take.Goals as goal
 
 pub returns-then-bytes-gt-MOST-clause-refused : goal.returns-then-bytes-gt-MOST-clause-refused

@@ -2,7 +2,7 @@ use Rattle.std.proofs.Common.{◌≡◌, ◌∙◌, sym, ap, true, false, inl, r
 use Rattle.aw_codec.specs.declared.record.Decoded.TheVariants.{Commit}
 use Rattle.aw_journal.specs.Passed.{Passed-none}
 use Rattle.mv_core.specs.SharedStep.{writes}
-use Rattle.aw_store.specs.Recorded.{record_from}
+use Rattle.aw_store.specs.inside.PayloadRecords.{record_from}
 use Rattle.aw_store.specs.Stores.{record_of}
 use Rattle.aw_store.proofs.callers.Commits.{StandFor-prepared}
 use Rattle.aw_store.proofs.Steps.{acts-no_memory}

@@ -1,8 +1,8 @@
 use Rattle.std.proofs.Common.{◌≡◌, ◌∙◌, ap, subst, sym, [], arith, length}
 use Rattle.std.proofs.lemmas.List.{length-map}
 use Rattle.aw_journal.specs.Format.{placed}
-use Rattle.aw_store.specs.Recorded.{AreSpellings}
-use Rattle.aw_store.specs.Replaying.{AreReplayed, Stops, bytes_of, last_bytes}
+use Rattle.aw_store.specs.inside.PayloadRecords.{AreSpellings}
+use Rattle.aw_store.specs.inside.ReplaySteps.{AreReplayed, Stops, bytes_of, last_bytes}
 use Rattle.aw_store.proofs.Loading.{placed-bytes_of, refused-stopped, held-replayed, opened-replayed}
 use Rattle.aw_store.proofs.callers.Spellings.{IsLast-loaded}
 use Rattle.aw_store.proofs.store.Store.replayed.Goals as goal

@@ -1,4 +1,4 @@
-use Rattle.std.specs.Prelude.{◌≡◌, ◌==◌, vec_capacity, Option}
+use Rattle.std.specs.Prelude.{◌≡◌, ◌==◌, vec_capacity, Option, ℕ, true, Some, None}
 use Rattle.std.specs.Option.{IsSomeAnd}
 use Rattle.std.proofs.Common.{sym, subst, refl}
 use Rattle.aw_body.specs.Bodies.{IsBodyOf}
@@ -6,12 +6,11 @@ use Rattle.aw_body.specs.declared.body.Body.TheVariants.{Dim}
 use Rattle.mv_view.specs.Each.{only}
 use Rattle.mv_view.specs.ViewState.{ObjectView, ViewState, AreSeen, object_of}
 use Rattle.mv_view.specs.Rules as rule
-use Rattle.mv_view.proofs.Keeping.{IsListed-same, owned-cond, seen-maintained}
-use Rattle.aw_dim.specs.Values.{Values}
-use Rattle.std.specs.Prelude.{ℕ, true, Some, None}
+use Rattle.mv_view.proofs.ChangedPlaces.{IsListed-same, owned-cond, seen-maintained}
+use Rattle.aw_dim.specs.DimensionState.{DimensionState}
 use Rattle.mv_view.proofs.view.View.maintain.Goals as goal
 
-form-alone : (view : ViewState) (object : ℕ) (values : Values) → IsSomeAnd (object_of view object) (λ found. IsBodyOf found.kind (Dim values) × (found.owned ≡ true)) → IsSomeAnd (object_of view object) (λ found. IsBodyOf found.kind (Dim values))
+form-alone : (view : ViewState) (object : ℕ) (values : DimensionState) → IsSomeAnd (object_of view object) (λ found. IsBodyOf found.kind (Dim values) × (found.owned ≡ true)) → IsSomeAnd (object_of view object) (λ found. IsBodyOf found.kind (Dim values))
 form-alone view object values both = step (object_of view object) both
   where
     step : (found : Option ObjectView) → IsSomeAnd found (λ one. IsBodyOf one.kind (Dim values) × (one.owned ≡ true)) → IsSomeAnd found (λ one. IsBodyOf one.kind (Dim values))

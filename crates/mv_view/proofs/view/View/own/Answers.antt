@@ -1,14 +1,12 @@
-use Rattle.std.specs.Prelude.{◌≡◌, vec_capacity, List, Option}
+use Rattle.std.specs.Prelude.{◌≡◌, vec_capacity, List, Option, map, ℕ}
 use Rattle.std.specs.Option.{option_map}
 use Rattle.std.proofs.Common.{◌∙◌, ap, sym, subst, refl}
 use Rattle.mv_view.specs.Each.{each_from, listed, names}
-use Rattle.mv_view.specs.ViewState.{ObjectView, ViewState}
+use Rattle.mv_view.specs.ViewState.{ObjectView, ViewState, HaveForms, kind_of, kinds_of}
 use Rattle.mv_view.specs.Rules as rule
-use Rattle.mv_view.proofs.Keeping.{IsListed-same, owned-renewed}
+use Rattle.mv_view.proofs.ChangedPlaces.{IsListed-same, owned-renewed}
 use Rattle.aw_schema.specs.declared.definition.DefKind.{DefKind}
-use Rattle.std.specs.Prelude.{map, ℕ}
 use Rattle.aw_body.specs.declared.change.Fresh.{Fresh}
-use Rattle.mv_view.specs.ViewState.{HaveForms, kind_of, kinds_of}
 use Rattle.mv_view.proofs.callers.Each.{each-each}
 use Rattle.mv_view.proofs.callers.Fitting.{kinds-each, kind-cond}
 use Rattle.mv_view.proofs.view.View.own.Goals as goal

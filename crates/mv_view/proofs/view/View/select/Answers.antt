@@ -6,7 +6,7 @@ use Rattle.aw_body.specs.declared.body.Body.TheVariants.{Set}
 use Rattle.mv_view.specs.Each.{only}
 use Rattle.mv_view.specs.ViewState.{ViewState, AreSeen, object_of}
 use Rattle.mv_view.specs.Rules as rule
-use Rattle.mv_view.proofs.Keeping.{IsListed-same, owned-cond, seen-selected}
+use Rattle.mv_view.proofs.ChangedPlaces.{IsListed-same, owned-cond, seen-selected}
 use Rattle.mv_view.proofs.view.View.select.Goals as goal
 
 pub invariant_of-self : goal.invariant_of-self

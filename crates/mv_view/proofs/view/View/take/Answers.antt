@@ -1,6 +1,6 @@
 use Rattle.std.specs.Prelude.{vec_capacity}
 use Rattle.mv_view.specs.Rules as rule
-use Rattle.mv_view.proofs.Keeping.{IsListed-same, owned-renewed}
+use Rattle.mv_view.proofs.ChangedPlaces.{IsListed-same, owned-renewed}
 use Rattle.mv_view.proofs.view.View.take.Goals as goal
 
 pub invariant_of-self : goal.invariant_of-self

@@ -5,7 +5,7 @@ use Rattle.mv_view.specs.ViewState.{AreSeen}
 use Rattle.mv_view.specs.declared.kept.Step.TheVariants.{Update}
 use Rattle.mv_view.specs.inside.Steps.{stepped}
 use Rattle.mv_view.proofs.Steps.{AreSeen-each, IsSeen-listed, IsSeen-stepped}
-use Rattle.mv_view.proofs.Keeping.{IsListed-same, owned-cond}
+use Rattle.mv_view.proofs.ChangedPlaces.{IsListed-same, owned-cond}
 use Rattle.mv_view.proofs.view.View.update.Goals as goal
 
 pub invariant_of-self : goal.invariant_of-self

@@ -1,6 +1,6 @@
 use Rattle.std.proofs.Common.{◌∙◌, refl, ap}
 use Rattle.std.specs.Str.Lines.{strip_carriage_return}
-use Rattle.script_play.proofs.Fed.{Feeds-answered, StopsIn-answered}
+use Rattle.script_play.proofs.FedBytes.{Feeds-answered, StopsIn-answered}
 use Rattle.script_play.proofs.player.Player+Store+D.end_line.Goals as goal
 
 pub returns-in-Ok-clause-feeds : goal.returns-in-Ok-clause-feeds

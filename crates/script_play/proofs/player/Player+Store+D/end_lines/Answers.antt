@@ -1,4 +1,4 @@
-use Rattle.script_play.proofs.Finished.{EndsLines-none, EndsLines-one, StopsAtEnd-one}
+use Rattle.script_play.proofs.ScriptEnd.{EndsLines-none, EndsLines-one, StopsAtEnd-one}
 use Rattle.script_play.proofs.player.Player+Store+D.end_lines.Goals as goal
 
 pub returns-then-is_empty-clause-ends : goal.returns-then-is_empty-clause-ends

@@ -1,6 +1,6 @@
 use Rattle.std.proofs.lemmas.Bool.{ne_eqb}
-use Rattle.script_play.specs.Players.{play_of}
-use Rattle.script_play.proofs.Fed.{Feeds-more, StopsIn-nothing}
+use Rattle.script_play.specs.inside.Playing.{play_of}
+use Rattle.script_play.proofs.FedBytes.{Feeds-more, StopsIn-nothing}
 use Rattle.script_play.proofs.player.Player+Store+D.feed.Goals as goal
 
 pub returns-in-Ok-clause-feeds : goal.returns-in-Ok-clause-feeds

@@ -1,8 +1,7 @@
 use Rattle.std.proofs.Common.{◌<◌, ◌+◌, ◌∙◌, ◌++◌, List, ℕ, length, drop, sym, ap, subst, arith, take-append-drop}
 use Rattle.std.proofs.lemmas.List.{take_more}
-use Rattle.script_play.specs.Playing.{StopsIn}
-use Rattle.script_play.specs.Players.{play_of}
-use Rattle.script_play.proofs.Fed.{StopsIn-append, StopsIn-more}
+use Rattle.script_play.specs.inside.Playing.{StopsIn, play_of}
+use Rattle.script_play.proofs.FedBytes.{StopsIn-append, StopsIn-more}
 use Rattle.script_play.proofs.player.Player+Store+D.feed_all.Goals as goal
 
 pub returns-in-Err-clause-feeds : goal.returns-in-Err-clause-feeds

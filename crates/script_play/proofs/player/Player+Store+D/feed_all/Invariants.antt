@@ -1,7 +1,6 @@
 use Rattle.std.proofs.Common.{◌≤◌, take}
-use Rattle.script_play.specs.StoreWorlds.{IsSound}
-use Rattle.script_play.specs.Playing.{Feeds}
-use Rattle.script_play.specs.Players.{play_of}
+use Rattle.script_play.specs.inside.StoreWorlds.{IsSound}
+use Rattle.script_play.specs.inside.Playing.{Feeds, play_of}
 use Rattle.script_play.proofs.player.Player+Store+D.feed_all.Given as goal
 
 -- the bytes up to this place were fed

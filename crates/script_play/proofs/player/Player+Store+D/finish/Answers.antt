@@ -1,4 +1,4 @@
-use Rattle.script_play.proofs.Finished.{Finishes-so, StopsAtEnd-so}
+use Rattle.script_play.proofs.ScriptEnd.{Finishes-so, StopsAtEnd-so}
 use Rattle.script_play.proofs.player.Player+Store+D.finish.Goals as goal
 
 pub returns-in-Ok-finish-clause-finishes : goal.returns-in-Ok-finish-clause-finishes

@@ -2,7 +2,7 @@ use Rattle.std.proofs.Common.{◌∙◌, ap, sym, Ok, None, Some}
 use Rattle.std.specs.Option.{option_map}
 use Rattle.ses_step.specs.Lines.{line_form}
 use Rattle.script_world.specs.Worlds.{no_session}
-use Rattle.script_play.specs.StoreWorlds.{refused_response, refusing_response}
+use Rattle.script_play.specs.inside.StoreWorlds.{refused_response, refusing_response}
 use Rattle.script_play.proofs.Lines.{form_as, blank_answers, malformed_answers, joins_answers, line_spelled}
 use Rattle.script_play.proofs.world.StoreWorld+Store+D.answer.Goals as goal
 

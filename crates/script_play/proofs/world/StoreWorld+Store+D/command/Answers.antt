@@ -1,6 +1,6 @@
 use Rattle.std.proofs.Common.{◌∙◌, ap, List, ℕ}
 use Rattle.ses_step.specs.Sessions.{name_at}
-use Rattle.script_play.specs.StoreWorlds.{definitions_in}
+use Rattle.script_play.specs.inside.StoreWorlds.{definitions_in}
 use Rattle.script_play.proofs.Lines.{see-held, command_none, command_some, command_wants}
 use Rattle.script_play.proofs.world.StoreWorld+Store+D.command.Goals as goal
 

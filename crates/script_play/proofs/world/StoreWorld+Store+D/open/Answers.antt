@@ -1,7 +1,7 @@
 use Rattle.std.proofs.Common.{◌≤◌, ◌∙◌, ap, subst, sym, Err, List, IsTrue}
 use Rattle.aw_schema.specs.declared.definition.Def.{Def}
 use Rattle.aw_schema.specs.RecordLength.{record_len}
-use Rattle.aw_store.specs.Replay.{are_replayed}
+use Rattle.aw_store.specs.StoredRecords.{are_replayed}
 use Rattle.script_play.proofs.Opening.{opens_by, fails_by}
 use Rattle.script_meaning.proofs.callers.Defining.{record_len-below}
 use Rattle.script_play.proofs.world.StoreWorld+Store+D.open.Goals as goal
@@ -16,7 +16,7 @@ define-requires-clause-kinds g c =
 
 pub returns-in-Ok : goal.returns-in-Ok
 returns-in-Ok g c = record {
-  opens = opens_by g.D.Disk.faults g.D.Disk.clock g.D.Disk.crash c.args.self.now c.define.new.self c.replace-drafted.result c.replace-drafted.new.dest c.replace-drafted.ensures.value (c.replace-drafted.ensures.after ∙ c.new.ensures) c.define.ensures.moments c.define.ensures.images c.define.ensures.later c.stands.ensures.replayable c.in-Ok.ensures.ok;
+  opens = opens_by g.D.Disk.faults g.D.Disk.clock g.D.Disk.crash c.args.self.now c.define.new.self c.replace-drafted.result c.replace-drafted.new.dest c.replace-drafted.ensures.value (c.replace-drafted.ensures.after ∙ c.new.ensures) c.define.ensures.moments c.define.ensures.images c.define.ensures.later c.recall_invariant.ensures.replayable c.in-Ok.ensures.ok;
 }
 
 pub returns-in-Err-DiskFault : goal.returns-in-Err-DiskFault

@@ -1,5 +1,5 @@
 use Rattle.std.proofs.Common.{◌∙◌, ap}
-use Rattle.script_play.specs.StoreWorlds.{refused_response}
+use Rattle.script_play.specs.inside.StoreWorlds.{refused_response}
 use Rattle.script_play.proofs.Lines.{placed_seen, session_full, session_some, session_wants}
 use Rattle.script_play.proofs.world.StoreWorld+Store+D.session_line.Goals as goal
 

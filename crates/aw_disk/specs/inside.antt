@@ -1,0 +1,3 @@
+-- What private functions alone need.
+pub mod MemDiskSteps
+pub mod PickedImages

@@ -1,0 +1,104 @@
+-- What a session does keeps that its view is of the definitions.
+use Rattle.std.specs.Prelude.{ℕ, ◌≡◌, ◌==◌, cond, List, [], ◌∷◌, Option, Some, None, IfSome, is_some}
+use Rattle.std.specs.Option.{option_map}
+use Rattle.std.proofs.Common.{◌∙◌, ap, refl, subst, arith}
+use Rattle.aw_cell.specs.declared.cell.Cell.TheVariants.{Int}
+use Rattle.aw_schema.specs.declared.definition.Def.{Def}
+use Rattle.aw_var.specs.CellMap.{Cells}
+use Rattle.aw_body.specs.declared.change.Fresh.{Fresh}
+use Rattle.mv_core.specs.declared.entry.Reply.{Reply}
+use Rattle.mv_core.specs.declared.entry.Reply.TheVariants.{Attached, Acquired, Resynced, Committed, Released, Detached, Owned, Newer, Stranger, Worn, TooLarge, Fault, NoMemory}
+use Rattle.mv_view.specs.Each.{object_in, only, listed, names}
+use Rattle.mv_view.specs.ViewState.{ObjectView, ViewState, kinds_of, kept_kinds, kept_objects, owned_objects}
+use Rattle.mv_view.specs.Rules as rule
+use Rattle.mv_view.proofs.callers.Fitting.{kinds-each, kind-cond}
+use Rattle.mv_view.proofs.callers.Committing.{handed-over, kinds-seen}
+use Rattle.ses_step.specs.declared.line.Command.{Command}
+use Rattle.ses_step.specs.declared.session.Known.{Known}
+use Rattle.ses_step.specs.Sessions.{begun, finished_by, Sees, Allows}
+use Rattle.ses_step.proofs.Begins.{begun-cases}
+
+-- ---- what a change makes of an object is of its definition
+
+kind-renewed : (fresh : Option Fresh) (found : ObjectView) → (rule.renewed fresh found).kind ≡ found.kind
+kind-renewed None found = refl
+kind-renewed (Some fresh) found = refl
+
+kind-acquired : (keep : List ℕ) (fresh : List Fresh) (at : ℕ) (found : ObjectView)
+    → (rule.renewed (rule.latest_of fresh at) (listed (rule.objects_of fresh) rule.owning at (listed keep rule.owning at found))).kind ≡ found.kind
+kind-acquired keep fresh at found =
+    let kept = listed keep rule.owning at found in
+    let owned = listed (rule.objects_of fresh) rule.owning at kept in
+    kind-renewed (rule.latest_of fresh at) owned
+    ∙ kind-cond (names (rule.objects_of fresh) at) (rule.owning kept) kept refl
+    ∙ kind-cond (names keep at) (rule.owning found) found refl
+
+kind-committed : (found : ObjectView) → (rule.after_commit found).kind ≡ found.kind
+kind-committed found =
+    let next = rule.committing found in
+    kind-cond found.owned (rule.leaving_now next) found
+    (kind-cond next.leaving (rule.giving_up next) next refl ∙ kind-cond (rule.is_staged found) _ found refl)
+
+-- ---- attaching
+
+sees-attached : (definitions : List Def) (who : ℕ) (fresh : List Fresh) → rule.objects_of fresh ≡ kept_objects (kept_kinds definitions) → kinds_of (rule.attached who definitions fresh) ≡ kept_kinds definitions
+sees-attached definitions who fresh objects =
+    kinds-seen 0 definitions fresh (λ k object is. handed-over (kept_kinds definitions) fresh object objects ∙ ap (λ n. is_some (object_in (kept_kinds definitions) n)) (let e : object ≡ k = omega arith in e))
+
+-- ---- a view that changes
+
+module _ (definitions : List Def) where
+  abbrev IsOfThem : ViewState → Type 0
+  IsOfThem view = kinds_of view ≡ kept_kinds definitions
+
+  sees-mapped : (change : ViewState → ViewState) (view : Option ViewState) → ((v : ViewState) → IsOfThem v → IsOfThem (change v)) → IfSome view IsOfThem → IfSome (option_map change view) IsOfThem
+  sees-mapped change None keeps sees = tt
+  sees-mapped change (Some view) keeps sees = keeps view sees
+
+  sees-written : (object : ℕ) (cells : Cells) (view : ViewState) → IsOfThem view → IsOfThem (rule.written view object cells)
+  sees-written object cells view sees =
+      kinds-each 0 (only object (rule.with_cells cells)) view.objects (λ at found. kind-cond (object == at) (rule.with_cells cells found) found refl) ∙ sees
+
+  sees-updated : (objects : List ℕ) (view : ViewState) → IsOfThem view → IsOfThem (rule.updated view objects)
+  sees-updated objects view sees =
+      kinds-each 0 (listed objects rule.staging) view.objects (λ at found. kind-cond (names objects at) (rule.staging found) found refl) ∙ sees
+
+  sees-acquired : (keep : List ℕ) (fresh : List Fresh) (view : ViewState) → IsOfThem view → IsOfThem (rule.acquired view keep fresh)
+  sees-acquired keep fresh view sees =
+      kinds-each 0 (λ at found. rule.renewed (rule.latest_of fresh at) (listed (rule.objects_of fresh) rule.owning at (listed keep rule.owning at found))) view.objects (kind-acquired keep fresh) ∙ sees
+
+  sees-resynced : (fresh : List Fresh) (view : ViewState) → IsOfThem view → IsOfThem (rule.resynced view fresh)
+  sees-resynced fresh view sees =
+      kinds-each 0 (λ at found. rule.renewed (rule.latest_of fresh at) found) view.objects (λ at found. kind-renewed (rule.latest_of fresh at) found) ∙ sees
+
+  sees-committed : (view : ViewState) → IsOfThem view → IsOfThem (rule.committed view)
+  sees-committed view sees = kinds-each 0 (λ at found. rule.after_commit found) view.objects (λ at found. kind-committed found) ∙ sees
+
+-- ---- a session
+
+-- beginning a command keeps it
+pub sees-begun : (definitions : List Def) (s : Known) (line : Command) → Sees definitions s → Sees definitions (begun definitions s line).1
+sees-begun definitions s line sees =
+    begun-cases (λ line after. Sees definitions after.1) definitions s (λ line answer. sees)
+    sees
+    (λ name object is. sees)
+    (λ name value object is. sees-mapped definitions (λ v. rule.written v object (([], Int value) ∷ [])) s.view (sees-written definitions object (([], Int value) ∷ [])) sees)
+    (λ view is. sees-updated definitions (owned_objects view) view (subst (λ (v : Option ViewState). IfSome v (λ one. kinds_of one ≡ kept_kinds definitions)) is sees))
+    (λ change changes. sees)
+    line
+
+-- a reply keeps it
+pub sees-finished : (definitions : List Def) (given : List (List ℕ)) (s : Known) (asked : List ℕ) (reply : Reply) → Sees definitions s → Allows definitions s reply → Sees definitions (finished_by definitions given s asked reply).1
+sees-finished definitions given s asked (Attached fresh) sees allowed = sees-attached definitions s.who fresh allowed.0
+sees-finished definitions given s asked (Acquired fresh) sees allowed = sees-mapped definitions (λ v. rule.acquired v asked fresh) s.view (sees-acquired definitions asked fresh) sees
+sees-finished definitions given s asked (Resynced fresh) sees allowed = sees-mapped definitions (λ v. rule.resynced v fresh) s.view (sees-resynced definitions fresh) sees
+sees-finished definitions given s asked Committed sees allowed = sees-mapped definitions rule.committed s.view (sees-committed definitions) sees
+sees-finished definitions given s asked Released sees allowed = sees
+sees-finished definitions given s asked Detached sees allowed = sees
+sees-finished definitions given s asked (Owned object by) sees allowed = sees
+sees-finished definitions given s asked (Newer object number) sees allowed = sees
+sees-finished definitions given s asked (Stranger object) sees allowed = sees
+sees-finished definitions given s asked (Worn object) sees allowed = sees
+sees-finished definitions given s asked (TooLarge bytes) sees allowed = sees
+sees-finished definitions given s asked Fault sees allowed = sees
+sees-finished definitions given s asked NoMemory sees allowed = sees
