@@ -10,8 +10,6 @@ mod plays;
 mod rule;
 mod seats;
 mod sequential;
-#[cfg(test)]
-mod tests;
 mod tickets;
 mod turns;
 mod view;

@@ -3,8 +3,6 @@
 
 mod refusal;
 mod report;
-#[cfg(test)]
-mod tests;
 
 pub use refusal::{Detail, Refusal};
 pub use report::{append_error, append_output, error_line};

@@ -88,35 +88,3 @@ impl Names {
         Ok(())
     }
 }
-
-#[cfg(test)]
-mod tests {
-    use super::*;
-    use std::test::Fail;
-
-    fn needs_send_and_sync<T: Send + Sync + Drop>(_: T) {}
-
-    #[test]
-    fn finds_hundreds_without_regard_to_case(rt: HostRuntime) -> Result<(), Fail> {
-        let alloc = rt.alloc();
-        let mut names = Names::new(alloc);
-        for first in b'a'..=b'p' {
-            for second in b'A'..=b'P' {
-                names.push(Text::of(&[first, second]).ok_or("a text")?)?;
-            }
-        }
-        for (at, name) in names.as_slice().iter().enumerate() {
-            let upper = name.bytes().to_ascii_uppercase(alloc)?;
-            let word = Text::of(upper.as_slice()).ok_or("a text")?;
-            assert_eq!(rt; names.find(&word), Some(at));
-        }
-        let first = Text::of(b"AA").ok_or("a text")?;
-        names.push(first)?;
-        assert_eq!(rt; names.find(&first), Some(0));
-        assert_eq!(rt; names.len(), 257);
-        assert_eq!(rt; names.get(256), Some(&first));
-        assert_eq!(rt; names.find(&Text::of(b"A").ok_or("a text")?), None);
-        needs_send_and_sync(names);
-        Ok(())
-    }
-}

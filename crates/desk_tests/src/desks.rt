@@ -1,8 +1,8 @@
 ghost use Rattle.std.specs.Prelude.{◌≡◌, ◌≤◌, ℕ, ◌+◌, ◌*◌, ◌%◌, ◌^◌, All, IfSome, length};
 ghost use Rattle.mv_desk.specs.Passes.{IsPassOf};
 
-use super::{Desk, Pass, Sequential, Unclosed, Unmade};
 use aw_lists::List;
+use mv_desk::{Desk, Pass, Sequential, Unclosed, Unmade};
 use std::alloc::Global;
 use std::sync::Wait;
 use std::sync::atomic::{AtomicU64, Ordering};

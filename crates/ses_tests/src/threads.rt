@@ -1,0 +1,18 @@
+use ses_report::{Detail, Refusal};
+use ses_step::{Answer, Begun, Command, Definition, Line, NamedKind, Names, Session};
+
+fn is_shared<T: Send + Sync>() {}
+
+#[test]
+fn sessions_cross_threads() {
+    is_shared::<Refusal>();
+    is_shared::<Detail>();
+    is_shared::<Session>();
+    is_shared::<Names>();
+    is_shared::<Begun>();
+    is_shared::<Answer>();
+    is_shared::<Command>();
+    is_shared::<Line>();
+    is_shared::<Definition>();
+    is_shared::<NamedKind>();
+}
