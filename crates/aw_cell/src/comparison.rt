@@ -78,35 +78,3 @@ impl Cell {
         }
     }
 }
-
-#[cfg(test)]
-mod tests {
-    use super::*;
-    use crate::text::Text;
-    use std::test::Fail;
-
-    #[test]
-    fn compares_numbers_of_both_kinds(rt: HostRuntime) -> Result<(), Fail> {
-        let half = Cell::Num(Number::of_units(5_000).ok_or("in range")?);
-        assert_eq!(rt; half.compare(Order::Lt, Cell::Int(1)), Cell::Bool(true));
-        assert_eq!(rt; Cell::Int(1).compare(Order::Le, half), Cell::Bool(false));
-        Ok(())
-    }
-
-    #[test]
-    fn orders_texts_by_their_bytes(rt: HostRuntime) -> Result<(), Fail> {
-        let long = Cell::Text(Text::of(b"North 10").ok_or("a text")?);
-        let short = Cell::Text(Text::of(b"South").ok_or("a text")?);
-        assert_eq!(rt; long.compare(Order::Lt, short), Cell::Bool(true));
-        assert_eq!(rt; long.compare(Order::Gt, short), Cell::Bool(false));
-        Ok(())
-    }
-
-    #[test]
-    fn compares_na(rt: HostRuntime) {
-        assert_eq!(rt; Cell::Na.compare(Order::Eq, Cell::Na), Cell::Bool(true));
-        assert_eq!(rt; Cell::Na.compare(Order::Ne, Cell::Int(1)), Cell::Bool(true));
-        assert_eq!(rt; Cell::Int(1).compare(Order::Lt, Cell::Na), Cell::Na);
-        assert_eq!(rt; Cell::Na.compare(Order::Ge, Cell::Na), Cell::Na);
-    }
-}

@@ -53,16 +53,3 @@ impl Cell {
         }
     }
 }
-
-#[cfg(test)]
-mod tests {
-    use super::*;
-
-    #[test]
-    fn joins_yes_no_and_na(rt: HostRuntime) {
-        assert_eq!(rt; Cell::Bool(false).and(Cell::Na), Cell::Bool(false));
-        assert_eq!(rt; Cell::Na.or(Cell::Bool(false)), Cell::Na);
-        assert_eq!(rt; Cell::Bool(true).not(), Cell::Bool(false));
-        assert_eq!(rt; Cell::Na.fill(Cell::Int(7)), Cell::Int(7));
-    }
-}

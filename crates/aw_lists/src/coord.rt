@@ -130,39 +130,3 @@ impl Coord {
         number
     }
 }
-
-#[cfg(test)]
-mod tests {
-    use super::*;
-    use std::test::Fail;
-
-    #[test]
-    fn packs_its_slots(rt: HostRuntime) -> Result<(), Fail> {
-        let coord = Coord::of(&[1, 0, 65535]).ok_or("three slots")?;
-        assert_eq!(rt; coord.slots(), [1, 0, 65535].as_slice());
-        assert_eq!(rt; coord.pack(), 4_295_032_831);
-        assert_eq!(rt; Coord::of(&[]).ok_or("no slots")?.pack(), 0);
-        assert_eq!(rt; Coord::of(&[1, 2, 3, 4, 5, 6, 7]), None);
-        Ok(())
-    }
-
-    #[test]
-    fn is_ordered_by_its_slots(rt: HostRuntime) -> Result<(), Fail> {
-        let low = Coord::of(&[2, 9]).ok_or("two slots")?;
-        let high = Coord::of(&[3, 1]).ok_or("two slots")?;
-        assert!(rt; low < high);
-        assert!(rt; low.pack() < high.pack());
-        crate::packing_keeps_order();
-        assert_eq!(rt; low.max(high), high);
-        assert_ne!(rt; low, Coord::of(&[2, 9, 0]).ok_or("three slots")?);
-        Ok(())
-    }
-
-    fn needs_send_and_sync<T: Send + Sync + Drop>(_: T) {}
-
-    #[test]
-    fn goes_to_another_thread() -> Result<(), Fail> {
-        needs_send_and_sync(Coord::of(&[1]).ok_or("one slot")?);
-        Ok(())
-    }
-}

@@ -45,22 +45,3 @@ impl FailingCalls {
         self.faults = self.faults.saturating_add(1);
     }
 }
-
-#[cfg(test)]
-mod tests {
-    use super::*;
-    use std::test::Fail;
-
-    #[test]
-    fn fails_at_the_listed_calls(rt: HostRuntime) -> Result<(), Fail> {
-        let mut calls = FailingCalls::new(List::from_slice(rt.alloc(), &[1, 2])?);
-        assert!(rt; !calls.next_fails());
-        assert!(rt; calls.next_fails());
-        calls.count_fault();
-        assert!(rt; calls.next_fails());
-        assert!(rt; !calls.next_fails());
-        assert_eq!(rt; calls.calls, 4);
-        assert_eq!(rt; calls.faults, 1);
-        Ok(())
-    }
-}
