@@ -4,7 +4,6 @@ use aw_lists::List;
 use aw_store::{NoMemory, Store};
 use script_disk::{Unopened, dump, make, open};
 use std::alloc::Global;
-use std::test::Fail;
 
 const EMPTY: [u8; 9] = *b"OLAPMW1\n\0";
 
@@ -34,77 +33,77 @@ fn sink_of(alloc: Global, failing: &[u64]) -> Result<MemSink, NoMemory> {
     Ok(MemSink::new(List::new(alloc), failing))
 }
 
-// The status of a dump and of `new` where the disk fails at this call, if nothing is written.
-fn with_failing_disk(alloc: Global, call: u64) -> Result<Option<(u8, u8)>, NoMemory> {
-    let mut disk = disk_of(alloc, &TWO, &[call])?;
-    let mut fresh = disk_of(alloc, &[], &[call])?;
-    let mut sink = sink_of(alloc, &[])?;
-    let dumped = dump(alloc, &mut disk, &mut sink);
-    let made = make(&mut fresh, &mut sink);
-    if sink.bytes().is_empty() {
-        Ok(Some((dumped, made)))
-    } else {
-        Ok(None)
+fn so(found: Result<bool, NoMemory>) -> bool {
+    match found {
+        Ok(is_so) => is_so,
+        Err(_) => false,
     }
 }
 
-#[test]
-fn a_failing_disk_is_told(rt: HostRuntime) -> Result<(), Fail> {
-    let alloc = rt.alloc();
-    assert_eq!(rt; with_failing_disk(alloc, 0)?, Some((5, 5)));
-    assert_eq!(rt; with_failing_disk(alloc, 2)?, Some((5, 5)));
-    Ok(())
+// Whether a dump of these bytes, over devices that fail at these calls, has this status and writes this.
+fn dumps(
+    alloc: Global,
+    bytes: &[u8],
+    disk_fails: &[u64],
+    sink_fails: &[u64],
+    status: u8,
+    text: &[u8],
+) -> Result<bool, NoMemory> {
+    let mut disk = disk_of(alloc, bytes, disk_fails)?;
+    let mut sink = sink_of(alloc, sink_fails)?;
+    let ended = dump(alloc, &mut disk, &mut sink);
+    Ok((ended == status) & (sink.bytes() == text))
 }
 
-// The status of a dump of these bytes where the sink fails at once.
-fn dumped_to_a_failing_sink(alloc: Global, bytes: &[u8]) -> Result<u8, NoMemory> {
-    let mut disk = disk_of(alloc, bytes, &[])?;
-    let mut sink = sink_of(alloc, &[0])?;
-    Ok(dump(alloc, &mut disk, &mut sink))
-}
-
-// Whether a dump of these bytes, over a sink that fails at its second call, ends behind this text.
-fn dumps_up_to(alloc: Global, bytes: &[u8], text: &[u8]) -> Result<bool, NoMemory> {
-    let mut disk = disk_of(alloc, bytes, &[])?;
-    let mut sink = sink_of(alloc, &[1])?;
-    let answer = dump(alloc, &mut disk, &mut sink);
-    Ok(answer == 4 && sink.bytes() == text)
-}
-
-// The status of `new` where the sink fails at once, if the disk is formatted then.
-fn made_to_a_failing_sink(alloc: Global, bytes: &[u8]) -> Result<Option<u8>, NoMemory> {
-    let mut disk = disk_of(alloc, bytes, &[])?;
-    let mut sink = sink_of(alloc, &[0])?;
-    let made = make(&mut disk, &mut sink);
-    if disk.bytes() == EMPTY.as_slice() {
-        Ok(Some(made))
-    } else {
-        Ok(None)
-    }
+// Whether `new` over these bytes, with devices that fail at these calls, has this status, writes nothing
+// and leaves this.
+fn makes(
+    alloc: Global,
+    bytes: &[u8],
+    disk_fails: &[u64],
+    sink_fails: &[u64],
+    status: u8,
+    left: &[u8],
+) -> Result<bool, NoMemory> {
+    let mut disk = disk_of(alloc, bytes, disk_fails)?;
+    let mut sink = sink_of(alloc, sink_fails)?;
+    let ended = make(&mut disk, &mut sink);
+    Ok((ended == status) & sink.bytes().is_empty() & (disk.bytes() == left))
 }
 
 #[test]
-fn a_failing_sink_is_told(rt: HostRuntime) -> Result<(), Fail> {
+fn a_failing_disk_is_told(rt: HostRuntime) {
     let alloc = rt.alloc();
-    assert_eq!(rt; dumped_to_a_failing_sink(alloc, &TWO)?, 4);
-    assert_eq!(rt; dumped_to_a_failing_sink(alloc, &TWO[..30])?, 4);
-    assert_eq!(rt; dumped_to_a_failing_sink(alloc, &TWO[..5])?, 4);
-    assert!(rt; dumps_up_to(alloc, &SECOND, b"a 1 0\n")?);
-    assert_eq!(rt; made_to_a_failing_sink(alloc, b"")?, Some(4));
-    assert_eq!(rt; made_to_a_failing_sink(alloc, &EMPTY)?, Some(4));
-    Ok(())
+    let dumped = so(dumps(alloc, &TWO, &[0], &[], 5, b""))
+        & so(dumps(alloc, &TWO, &[2], &[], 5, b""));
+    let made = so(makes(alloc, b"", &[0], &[], 5, b""))
+        & so(makes(alloc, b"", &[2], &[], 5, &EMPTY));
+    assert!(rt; dumped & made);
 }
 
 #[test]
-fn devices_that_never_fail_serve_too(rt: HostRuntime) -> Result<(), Fail> {
+fn a_failing_sink_is_told(rt: HostRuntime) {
     let alloc = rt.alloc();
+    let dumped = so(dumps(alloc, &TWO, &[], &[0], 4, b""))
+        & so(dumps(alloc, &TWO[..30], &[], &[0], 4, b""))
+        & so(dumps(alloc, &TWO[..5], &[], &[0], 4, b""))
+        & so(dumps(alloc, &SECOND, &[], &[1], 4, b"a 1 0\n"));
+    let made = so(makes(alloc, b"", &[], &[0], 4, &EMPTY))
+        & so(makes(alloc, &EMPTY, &[], &[0], 4, &EMPTY));
+    assert!(rt; dumped & made);
+}
+
+fn makes_and_dumps(alloc: Global) -> Result<bool, NoMemory> {
     let mut disk = SureDisk::new(alloc, b"", 9)?;
     let mut sink = SureSink::new(alloc, 3)?;
-    assert_eq!(rt; make(&mut disk, &mut sink), 0);
-    assert_eq!(rt; dump(alloc, &mut disk, &mut sink), 0);
-    assert_eq!(rt; disk.bytes(), EMPTY.as_slice());
-    assert_eq!(rt; sink.bytes(), b"ok\n".as_slice());
-    Ok(())
+    let ended = (make(&mut disk, &mut sink) == 0) & (dump(alloc, &mut disk, &mut sink) == 0);
+    let left = disk.bytes() == EMPTY.as_slice();
+    Ok(ended & left & (sink.bytes() == b"ok\n".as_slice()))
+}
+
+#[test]
+fn devices_that_never_fail_serve_too(rt: HostRuntime) {
+    assert!(rt; so(makes_and_dumps(rt.alloc())));
 }
 
 fn opened<K: Sink, D: Disk + Drop>(alloc: Global, disk: D, out: &mut K) -> Result<u64, Unopened> {
@@ -119,29 +118,26 @@ fn first_number<D: Disk>(store: &Store<D>) -> u64 {
     if store.keeps(0) { store.look(0).0 } else { 0 }
 }
 
-// How opening a disk of these bytes goes, which fails at these calls, over a sink that fails at these.
-fn opened_of(
+// Whether opening a disk of these bytes, which fails at these calls, over a sink that fails at these, goes
+// so.
+fn opens(
     alloc: Global,
     bytes: &[u8],
     disk_fails: &[u64],
     sink_fails: &[u64],
-) -> Result<Result<u64, Unopened>, NoMemory> {
+    expected: Result<u64, Unopened>,
+) -> Result<bool, NoMemory> {
     let disk = disk_of(alloc, bytes, disk_fails)?;
     let mut sink = sink_of(alloc, sink_fails)?;
-    Ok(opened(alloc, disk, &mut sink))
+    Ok(opened(alloc, disk, &mut sink) == expected)
 }
 
 #[test]
-fn opening_answers_each_way(rt: HostRuntime) -> Result<(), Fail> {
+fn opening_answers_each_way(rt: HostRuntime) {
     let alloc = rt.alloc();
-    assert_eq!(rt; opened_of(alloc, &TWO, &[], &[])?, Ok(2));
-    let cut = opened_of(alloc, &TWO[..30], &[], &[])?;
-    assert_eq!(rt; cut, Err(Unopened::Damaged(22)));
-    let short = opened_of(alloc, &TWO[..5], &[], &[])?;
-    assert_eq!(rt; short, Err(Unopened::Unformatted));
-    let unread = opened_of(alloc, &TWO, &[0], &[])?;
-    assert_eq!(rt; unread, Err(Unopened::DiskFault));
-    let untold = opened_of(alloc, &TWO[..5], &[], &[0])?;
-    assert_eq!(rt; untold, Err(Unopened::SinkFault));
-    Ok(())
+    let damaged = so(opens(alloc, &TWO[..30], &[], &[], Err(Unopened::Damaged(22))))
+        & so(opens(alloc, &TWO[..5], &[], &[], Err(Unopened::Unformatted)));
+    let hindered = so(opens(alloc, &TWO, &[0], &[], Err(Unopened::DiskFault)))
+        & so(opens(alloc, &TWO[..5], &[], &[0], Err(Unopened::SinkFault)));
+    assert!(rt; damaged & hindered & so(opens(alloc, &TWO, &[], &[], Ok(2))));
 }

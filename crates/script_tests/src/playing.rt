@@ -4,7 +4,6 @@ use aw_io::{MemSink, MemSource, NoMemory, Sink, Source, SureSink, SureSource};
 use aw_lists::List;
 use script_play::run;
 use std::alloc::Global;
-use std::test::Fail;
 
 const FIRST_COURSE: &[u8] = b"DEFINE v VARIABLE INTEGER\n\
     a: AW ATTACH MULTI\n\
@@ -17,10 +16,6 @@ const FIRST_COURSE: &[u8] = b"DEFINE v VARIABLE INTEGER\n\
 const FIRST_TRANSCRIPT: &[u8] = b"a: ok\na: ok\na: ok\na: ok\na: ok\na: 7\n";
 
 const USAGE: &[u8] = b"usage: play, new, dump, make N\n";
-
-fn text(bytes: &[u8]) -> Result<Text, Fail> {
-    Ok(Text::of(bytes).ok_or("no text")?)
-}
 
 /// A workspace without definitions.
 const EMPTY: &[u8] = b"OLAPMW1\n\0";
@@ -52,9 +47,16 @@ fn sink(alloc: Global, failing: Option<u64>) -> Result<MemSink, NoMemory> {
     Ok(MemSink::new(List::new(alloc), listed(alloc, failing)?))
 }
 
-fn disk(alloc: Global, bytes: &[u8], failing: Option<u64>) -> Result<MemDisk, NoMemory> {
+fn disk(alloc: Global, bytes: &[u8], failing: &[u64]) -> Result<MemDisk, NoMemory> {
     let bytes = List::from_slice(alloc, bytes)?;
-    Ok(MemDisk::new(bytes, listed(alloc, failing)?))
+    Ok(MemDisk::new(bytes, List::from_slice(alloc, failing)?))
+}
+
+fn so(found: Result<bool, NoMemory>) -> bool {
+    match found {
+        Ok(is_so) => is_so,
+        Err(_) => false,
+    }
 }
 
 // The status of a run of one word.
@@ -64,80 +66,47 @@ fn run_word<S: Source, K: Sink, D: Disk>(
     script: &mut S,
     out: &mut K,
     disk: &mut D,
-) -> Result<u8, Fail> {
-    let words = [text(word)?];
-    Ok(run(alloc, &words, script, out, disk))
+) -> u8 {
+    match Text::of(word) {
+        Some(word) => run(alloc, &[word], script, out, disk),
+        None => 255,
+    }
 }
 
-// The calls of the devices that are to fail, one of each at most.
-#[derive(Clone, Copy)]
-struct Failing {
-    take: Option<u64>,
-    put: Option<u64>,
-    disk: Option<u64>,
-}
-
-const NONE: Failing = Failing {
-    take: None,
-    put: None,
-    disk: None,
-};
-
-// The status of a run of one word over these bytes on a disk with these, and what it wrote.
-fn ran(alloc: Global, word: &[u8], script: &[u8], failing: Failing) -> Result<(u8, Vec<u8>), Fail> {
-    let mut script = source(alloc, script, failing.take)?;
-    let mut out = sink(alloc, failing.put)?;
-    let mut disk = disk(alloc, EMPTY, failing.disk)?;
-    let status = run_word(alloc, word, &mut script, &mut out, &mut disk)?;
-    Ok((status, out.bytes().to_vec(alloc)?))
-}
-
-fn played(alloc: Global, script: &[u8]) -> Result<(u8, Vec<u8>), Fail> {
-    ran(alloc, b"play", script, NONE)
-}
-
-// Whether a run of one word over this script, on a disk with these bytes whose one call fails, has this
-// status, writes this text and leaves these bytes.
-fn leaves(
+// Whether a run of one word over the first course, whose source and sink fail at these calls, has this
+// status and writes this text.
+fn writes(
     alloc: Global,
     word: &[u8],
-    script: &[u8],
-    bytes: &[u8],
-    call: Option<u64>,
+    take: Option<u64>,
+    put: Option<u64>,
     status: u8,
-    written: &[u8],
-    left: &[u8],
-) -> Result<bool, Fail> {
-    let mut script = source(alloc, script, None)?;
-    let mut out = sink(alloc, None)?;
-    let mut disk = disk(alloc, bytes, call)?;
-    let ended = run_word(alloc, word, &mut script, &mut out, &mut disk)?;
-    Ok((ended == status) & (out.bytes() == written) & (disk.bytes() == left))
+    text: &[u8],
+) -> Result<bool, NoMemory> {
+    let mut script = source(alloc, FIRST_COURSE, take)?;
+    let mut out = sink(alloc, put)?;
+    let mut disk = disk(alloc, EMPTY, &[])?;
+    let ended = run_word(alloc, word, &mut script, &mut out, &mut disk);
+    Ok((ended == status) & (out.bytes() == text))
 }
 
-// A run of `play` over the forms that never fail, with room for so many bytes.
-fn surely_played(alloc: Global, script: &[u8], room: u32) -> Result<(u8, Vec<u8>), Fail> {
-    let mut script = SureSource::new(List::from_slice(alloc, script)?);
+// Whether `play` over the forms that never fail, with room for so many bytes, writes the transcript.
+fn surely_plays(alloc: Global, room: u32) -> Result<bool, NoMemory> {
+    let mut script = SureSource::new(List::from_slice(alloc, FIRST_COURSE)?);
     let mut out = SureSink::new(alloc, room)?;
     let mut disk = SureDisk::new(alloc, EMPTY, 45)?;
-    let status = run_word(alloc, b"play", &mut script, &mut out, &mut disk)?;
-    Ok((status, out.bytes().to_vec(alloc)?))
+    let ended = run_word(alloc, b"play", &mut script, &mut out, &mut disk);
+    Ok((ended == 0) & (out.bytes() == FIRST_TRANSCRIPT))
 }
 
 #[test]
-fn first_course(rt: HostRuntime) -> Result<(), Fail> {
-    let (status, written) = played(rt.alloc(), FIRST_COURSE)?;
-    assert_eq!(rt; status, 0);
-    assert_eq!(rt; written.as_slice(), FIRST_TRANSCRIPT);
-
-    let (status, written) = surely_played(rt.alloc(), FIRST_COURSE, 36)?;
-    assert_eq!(rt; status, 0);
-    assert_eq!(rt; written.as_slice(), FIRST_TRANSCRIPT);
-    Ok(())
+fn first_course(rt: HostRuntime) {
+    let played = so(writes(rt.alloc(), b"play", None, None, 0, FIRST_TRANSCRIPT));
+    assert!(rt; played & so(surely_plays(rt.alloc(), 36)));
 }
 
 #[test]
-fn faults(rt: HostRuntime) -> Result<(), Fail> {
+fn faults(rt: HostRuntime) {
     let cases: [(&[u8], Option<u64>, Option<u64>, u8, &[u8]); 6] = [
         (b"play", Some(1), None, 3, FIRST_TRANSCRIPT),
         (b"play", Some(0), None, 3, b""),
@@ -146,25 +115,47 @@ fn faults(rt: HostRuntime) -> Result<(), Fail> {
         (b"make", None, None, 2, USAGE),
         (b"make", None, Some(0), 4, b""),
     ];
-    for (word, take, put, status, transcript) in cases {
-        let (ended, written) = ran(
-            rt.alloc(),
-            word,
-            FIRST_COURSE,
-            Failing {
-                take,
-                put,
-                disk: None,
-            },
-        )?;
-        assert_eq!(rt; ended, status);
-        assert_eq!(rt; written.as_slice(), transcript);
+    let mut all = true;
+    for (word, take, put, status, text) in cases {
+        all &= so(writes(rt.alloc(), word, take, put, status, text));
     }
-    Ok(())
+    assert!(rt; all);
 }
 
+// Whether a run of one word over this script, on a disk with these bytes that fails at these calls, has
+// this status, writes this text and leaves these bytes.
+fn leaves(
+    alloc: Global,
+    word: &[u8],
+    script: &[u8],
+    bytes: &[u8],
+    failing: &[u64],
+    status: u8,
+    text: &[u8],
+    left: &[u8],
+) -> Result<bool, NoMemory> {
+    let mut script = source(alloc, script, None)?;
+    let mut out = sink(alloc, None)?;
+    let mut disk = disk(alloc, bytes, failing)?;
+    let ended = run_word(alloc, word, &mut script, &mut out, &mut disk);
+    Ok((ended == status) & (out.bytes() == text) & (disk.bytes() == left))
+}
+
+// The definitions can't be synced in the last case.
 #[test]
-fn a_commit_after_a_disk_fault_repairs(rt: HostRuntime) -> Result<(), Fail> {
+fn disk_faults(rt: HostRuntime) {
+    let alloc = rt.alloc();
+    let written = b"OLAPMW1\n\0\0\0\0\x09D\x01\0\x01\x01v\x03\x02\0\0";
+    let play = so(leaves(alloc, b"play", FIRST_COURSE, EMPTY, &[0], 5, b"", EMPTY))
+        & so(leaves(alloc, b"play", FIRST_COURSE, EMPTY, &[4], 5, b"", written));
+    let others = so(leaves(alloc, b"dump", b"", &COMMITTED, &[2], 5, b"", &COMMITTED))
+        & so(leaves(alloc, b"new", b"", EMPTY, &[0], 5, b"", EMPTY));
+    assert!(rt; play & others);
+}
+
+// Three calls load the disk, four write the definitions, and the fourth of the commit fails.
+#[test]
+fn a_commit_after_a_disk_fault_repairs(rt: HostRuntime) {
     let script = b"DEFINE v VARIABLE INTEGER\n\
         a: AW ATTACH MULTI\n\
         a: ACQUIRE v\n\
@@ -173,72 +164,100 @@ fn a_commit_after_a_disk_fault_repairs(rt: HostRuntime) -> Result<(), Fail> {
         a: COMMIT\n\
         a: COMMIT\n\
         a: SHOW v\n";
-    let transcript = b"a: ok\na: ok\na: ok\na: ok\na: ERROR 30\na: ok\na: 7\n";
-    // Three calls load the disk, four write the definitions, and the fourth of the commit fails.
-    let call = Some(10);
+    let text = b"a: ok\na: ok\na: ok\na: ok\na: ERROR 30\na: ok\na: 7\n";
     assert!(rt;
-        leaves(
+        so(leaves(
             rt.alloc(),
             b"play",
             script,
             EMPTY,
-            call,
+            &[10],
             1,
-            transcript,
+            text,
             &COMMITTED
-        )?
+        ))
     );
-    Ok(())
 }
 
+// A commit of `v` by `a` meets a fault once or twice, and then `b` commits `w`.
+const BEFORE: &[u8] = b"DEFINE v VARIABLE INTEGER\n\
+    DEFINE w VARIABLE INTEGER\n\
+    a: AW ATTACH MULTI\n\
+    a: ACQUIRE v\n\
+    a: v = 7\n\
+    a: UPDATE\n";
+
+const BEHIND: &[u8] = b"a: COMMIT\n\
+    b: AW ATTACH MULTI\n\
+    b: ACQUIRE v\n\
+    b: ACQUIRE w\n\
+    b: w = 9\n\
+    b: UPDATE\n\
+    b: COMMIT\n";
+
+// Whether `a` meets so many faults where the disk fails at these calls, `b` finds `v` owned, and the disk
+// has the commit of `b` alone in the end.
+fn another_goes_on(alloc: Global, failing: &[u64], again: bool) -> Result<bool, NoMemory> {
+    let mut script = BEFORE.to_vec(alloc)?;
+    let mut text = b"a: ok\na: ok\na: ok\na: ok\n".to_vec(alloc)?;
+    if again {
+        script.extend_from_slice(b"a: COMMIT\n")?;
+        text.extend_from_slice(b"a: ERROR 30\n")?;
+    }
+    script.extend_from_slice(BEHIND)?;
+    text.extend_from_slice(b"a: ERROR 30\nb: ok\nb: ERROR 17 v a\nb: ok\nb: ok\nb: ok\nb: ok\n")?;
+    let left =
+        b"OLAPMW1\n\x01\0\0\0\x0eD\x01\0\x02\x01v\x03\x02\0\x01w\x03\x02\0\x01\0\0\0\x11C\x01\0\x01\0\x01M\0\0\0\0\x01\x02\0\0\0\x09\0";
+    let (script, text) = (script.as_slice(), text.as_slice());
+    leaves(alloc, b"play", script, EMPTY, failing, 1, text, left)
+}
+
+// In the last two cases the repair fails.
 #[test]
-fn disk_faults(rt: HostRuntime) -> Result<(), Fail> {
-    let alloc = rt.alloc();
-    assert!(rt; leaves(alloc, b"play", FIRST_COURSE, EMPTY, Some(0), 5, b"", EMPTY)?);
-    assert!(rt; leaves(alloc, b"dump", b"", &COMMITTED, Some(2), 5, b"", &COMMITTED)?);
-    assert!(rt; leaves(alloc, b"new", b"", EMPTY, Some(0), 5, b"", EMPTY)?);
-    // The definitions can't be synced.
-    let (status, written) = ran(
-        alloc,
-        b"play",
-        FIRST_COURSE,
-        Failing {
-            take: None,
-            put: None,
-            disk: Some(4),
-        },
-    )?;
-    assert_eq!(rt; status, 5);
-    assert!(rt; written.is_empty());
-    Ok(())
+fn another_session_ends_a_doubt(rt: HostRuntime) {
+    let cases: [(&[u64], bool); 6] = [
+        (&[7], false),
+        (&[8], false),
+        (&[9], false),
+        (&[10], false),
+        (&[10, 11], true),
+        (&[9, 11], true),
+    ];
+    let mut all = true;
+    for (failing, again) in cases {
+        all &= so(another_goes_on(rt.alloc(), failing, again));
+    }
+    assert!(rt; all);
 }
 
 // The disk that the first course left, with all its moments.
-fn played_disk(alloc: Global) -> Result<MemDisk, Fail> {
+fn played_disk(alloc: Global) -> Result<MemDisk, NoMemory> {
     let mut script = source(alloc, FIRST_COURSE, None)?;
     let mut out = sink(alloc, None)?;
-    let mut disk = disk(alloc, EMPTY, None)?;
-    let _ = run_word(alloc, b"play", &mut script, &mut out, &mut disk)?;
+    let mut disk = disk(alloc, EMPTY, &[])?;
+    let _ = run_word(alloc, b"play", &mut script, &mut out, &mut disk);
     Ok(disk)
 }
 
-// How many records a disk with these bytes holds of those that the first course leaves, by its dump.
-fn records_left(alloc: Global, bytes: &[u8]) -> Result<Option<u8>, Fail> {
+// How many records this dump tells of those that the first course leaves.
+fn records_in(dump: &[u8]) -> Option<u8> {
+    if dump == DUMP {
+        return Some(2);
+    }
+    if dump == b"v 1 0\n".as_slice() {
+        return Some(1);
+    }
+    if dump.is_empty() { Some(0) } else { None }
+}
+
+// How many records a disk with these bytes holds of those, by its dump.
+fn records_left(alloc: Global, bytes: &[u8]) -> Result<Option<u8>, NoMemory> {
     let mut script = source(alloc, b"", None)?;
     let mut out = sink(alloc, None)?;
-    let mut disk = disk(alloc, bytes, None)?;
-    let status = run_word(alloc, b"dump", &mut script, &mut out, &mut disk)?;
-    if status != 0 {
-        return Ok(None);
-    }
-    if out.bytes() == DUMP {
-        return Ok(Some(2));
-    }
-    if out.bytes() == b"v 1 0\n".as_slice() {
-        return Ok(Some(1));
-    }
-    Ok(if out.bytes().is_empty() {
-        Some(0)
+    let mut disk = disk(alloc, bytes, &[])?;
+    let status = run_word(alloc, b"dump", &mut script, &mut out, &mut disk);
+    Ok(if status == 0 {
+        records_in(out.bytes())
     } else {
         None
     })
@@ -257,20 +276,40 @@ fn may_be_left(back: u64, records: Option<u8>) -> bool {
     }
 }
 
-#[test]
-fn a_crash_at_any_moment_leaves_a_prefix(rt: HostRuntime) -> Result<(), Fail> {
-    let alloc = rt.alloc();
-    let disk = played_disk(alloc)?;
-    let picks = [Pick::Kept, Pick::Old, Pick::Fill(1), Pick::Fill(255)];
-    for moment in 0..disk.moments() {
-        for pick in picks {
-            let image = disk.image(alloc, moment, pick)?;
-            let records = records_left(alloc, image.as_slice())?;
-            assert!(rt;
-                may_be_left(disk.moments() - 1 - moment, records),
-                "at {moment}"
-            );
-        }
+// Whether the image of a moment has as many records as it may.
+fn leaves_a_prefix(
+    alloc: Global,
+    disk: &MemDisk,
+    moment: u64,
+    pick: Pick,
+) -> Result<bool, NoMemory> {
+    if moment >= disk.moments() {
+        return Ok(false);
     }
-    Ok(())
+    let image = disk.image(alloc, moment, pick)?;
+    let records = records_left(alloc, image.as_slice())?;
+    Ok(may_be_left(disk.moments() - 1 - moment, records))
+}
+
+fn each_moment_leaves_a_prefix(alloc: Global, disk: &MemDisk, pick: Pick) -> bool {
+    let mut all = true;
+    for moment in 0..disk.moments() {
+        all &= so(leaves_a_prefix(alloc, disk, moment, pick));
+    }
+    all
+}
+
+fn each_image_leaves_a_prefix(alloc: Global) -> Result<bool, NoMemory> {
+    let disk = played_disk(alloc)?;
+    Ok(
+        each_moment_leaves_a_prefix(alloc, &disk, Pick::Kept)
+            & each_moment_leaves_a_prefix(alloc, &disk, Pick::Old)
+            & each_moment_leaves_a_prefix(alloc, &disk, Pick::Fill(1))
+            & each_moment_leaves_a_prefix(alloc, &disk, Pick::Fill(255)),
+    )
+}
+
+#[test]
+fn a_crash_at_any_moment_leaves_a_prefix(rt: HostRuntime) {
+    assert!(rt; so(each_image_leaves_a_prefix(rt.alloc())));
 }
