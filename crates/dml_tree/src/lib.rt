@@ -9,8 +9,6 @@ mod next;
 mod numeral;
 mod quoted;
 mod statement;
-#[cfg(test)]
-mod tests;
 mod threads;
 mod token;
 mod word;

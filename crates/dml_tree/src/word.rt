@@ -334,20 +334,3 @@ impl Word {
         look_up(&WORDS, written)
     }
 }
-
-#[cfg(test)]
-mod tests {
-    use super::*;
-    use std::test::Fail;
-
-    #[test]
-    fn knows_each_word_in_any_case(rt: HostRuntime) -> Result<(), Fail> {
-        for (spelling, word) in WORDS {
-            let small = spelling.to_ascii_lowercase(rt.alloc())?;
-            assert_eq!(rt; Word::of(spelling), Some(word));
-            assert_eq!(rt; Word::of(small.as_slice()), Some(word));
-        }
-        assert_eq!(rt; Word::of(b"IFX"), None);
-        Ok(())
-    }
-}

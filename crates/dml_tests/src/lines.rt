@@ -1,11 +1,9 @@
-use crate::*;
-use aw_cell::{Kind, Operator, Order, Text};
-use aw_lists::List;
+use dml_tree::{Lexeme, Sort, TokenFault, Word, tokens};
 use std::alloc::Global;
 use std::fmt::Write;
 use std::test::Fail;
 
-/// The tokens as printed, each behind its two places, or the column of the fault.
+// The tokens as printed, each behind its two places, or the column of the fault.
 fn printed(alloc: Global, line: &[u8], from: u32) -> Result<String, Fail> {
     let mut text = String::new(alloc);
     if line.len() > 4_096 || from as usize > line.len() {
@@ -58,9 +56,11 @@ fn reads_each_kind_of_token(rt: HostRuntime) -> Result<(), Fail> {
         (b"'\"\\'\\\\'", "0-7 Text(\"\\\"'\\\\\"); 7-7 End; "),
         (b"v \"'x", "0-1 Name(\"v\"); 5-5 End; "),
     ];
+    let mut all = true;
     for (line, expected) in cases {
-        assert!(rt; reads(rt.alloc(), line, expected)?);
+        all &= reads(rt.alloc(), line, expected)?;
     }
+    assert!(rt; all);
     Ok(())
 }
 
@@ -69,10 +69,9 @@ fn reads_each_symbol(rt: HostRuntime) -> Result<(), Fail> {
     let symbols = "0-1 Symbol(Equals); 1-2 Symbol(Open); 2-3 Symbol(Close); 3-4 Symbol(Comma); \
 4-5 Symbol(Less); 5-6 Symbol(Greater); 6-7 Symbol(Plus); 7-8 Symbol(Minus); 8-9 Symbol(Star); \
 9-10 Symbol(Slash); 10-10 End; ";
-    assert!(rt; reads(rt.alloc(), b"=(),<>+-*/", symbols)?);
-    let line = b"ada: SHOW v";
     let session = "5-9 Word(Show); 10-11 Name(\"v\"); 11-11 End; ";
-    assert_eq!(rt; printed(rt.alloc(), line, 4)?.as_str(), session);
+    let behind_a_colon = printed(rt.alloc(), b"ada: SHOW v", 4)?.as_str() == session;
+    assert!(rt; reads(rt.alloc(), b"=(),<>+-*/", symbols)? & behind_a_colon);
     Ok(())
 }
 
@@ -93,13 +92,15 @@ fn tells_the_column_of_the_first_fault(rt: HostRuntime) -> Result<(), Fail> {
         (b"v = 100000000000000", "fault at 5"),
         (b"1 100000000000000.0 $", "fault at 3"),
     ];
+    let mut all = true;
     for (line, expected) in cases {
-        assert!(rt; reads(rt.alloc(), line, expected)?);
+        all &= reads(rt.alloc(), line, expected)?;
     }
+    assert!(rt; all);
     Ok(())
 }
 
-/// A quote, so many letters, and a quote.
+// A quote, so many letters, and a quote.
 fn text_of(alloc: Global, letters: usize) -> Result<Vec<u8>, Fail> {
     let mut line = Vec::new(alloc);
     line.push(b'\'')?;
@@ -110,61 +111,33 @@ fn text_of(alloc: Global, letters: usize) -> Result<Vec<u8>, Fail> {
     Ok(line)
 }
 
+fn ends_with(alloc: Global, line: &[u8], from: u32, last: &str) -> Result<bool, Fail> {
+    Ok(printed(alloc, line, from)?.as_str().ends_with(last))
+}
+
 #[test]
 fn keeps_to_64_bytes(rt: HostRuntime) -> Result<(), Fail> {
-    let longest = text_of(rt.alloc(), 64)?;
-    let found = printed(rt.alloc(), longest.as_slice(), 0)?;
-    assert!(rt; found.as_str().ends_with("\"); 66-66 End; "));
-    let longer = text_of(rt.alloc(), 65)?;
-    assert!(rt; reads(rt.alloc(), longer.as_slice(), "fault at 1")?);
-    let names = printed(rt.alloc(), longer.as_slice(), 66)?;
-    assert_eq!(rt; names.as_str(), "fault at 67");
-    let name = printed(rt.alloc(), [b'n'; 65].as_slice(), 0)?;
-    assert!(rt;
-        name.as_str()
-            .ends_with("\"); 64-65 Name(\"n\"); 65-65 End; ")
-    );
+    let alloc = rt.alloc();
+    let (longest, longer) = (text_of(alloc, 64)?, text_of(alloc, 65)?);
+    let texts = ends_with(alloc, longest.as_slice(), 0, "\"); 66-66 End; ")?
+        & reads(alloc, longer.as_slice(), "fault at 1")?
+        & ends_with(alloc, longer.as_slice(), 66, "fault at 67")?;
+    let name = "\"); 64-65 Name(\"n\"); 65-65 End; ";
+    assert!(rt; texts & ends_with(alloc, &[b'n'; 65], 0, name)?);
     Ok(())
 }
 
-fn needs_send_and_sync<T: Send + Sync + Drop>(_: T) {}
-
-#[test]
-fn goes_to_another_thread(rt: HostRuntime) -> Result<(), Fail> {
-    let name = Text::of(b"v").ok_or("a text")?;
-    needs_send_and_sync(tokens(rt.alloc(), b"SHOW v", 0).ok().ok_or("tokens")?);
-    needs_send_and_sync(Sort::Word(Word::If));
-    needs_send_and_sync(TokenFault::NoMemory);
-    needs_send_and_sync(Target {
-        name,
-        fixes: List::new(rt.alloc()),
-    });
-    needs_send_and_sync(Joint::Compare(Order::Eq));
-    needs_send_and_sync(Local {
-        line: 2,
-        name,
-        kind: Kind::Int,
-    });
-    needs_send_and_sync(MapLine {
-        line: 2,
-        relation: name,
-        operator: Operator::Sum,
-        rest: Remainder::Unwritten,
-    });
-    Ok(())
+fn counts(alloc: Global) -> Option<bool> {
+    let found = tokens(alloc, b"3000000000", 0).ok()?;
+    let what = found.get(0)?.what;
+    let sorted = what.sort().is(Sort::Whole) & !what.sort().is(Sort::Integer);
+    Some(sorted & (what.count() == Some(3_000_000_000)))
 }
 
 #[test]
-fn tells_sorts_and_counts(rt: HostRuntime) -> Result<(), Fail> {
-    let number = tokens(rt.alloc(), b"3000000000", 0);
-    let found = number.ok().ok_or("tokens")?;
-    let what = found.get(0).ok_or("a token")?.what;
-    assert!(rt; what.sort().is(Sort::Whole));
-    assert!(rt; !what.sort().is(Sort::Integer));
-    assert_eq!(rt; what.count(), Some(3_000_000_000));
-    assert_eq!(rt; Lexeme::Integer(7).count(), Some(7));
-    assert_eq!(rt; Lexeme::End.count(), None);
-    assert!(rt; Sort::Word(Word::If).is(Lexeme::Word(Word::If).sort()));
-    assert!(rt; !Sort::Word(Word::If).is(Sort::Word(Word::Integer)));
-    Ok(())
+fn tells_sorts_and_counts(rt: HostRuntime) {
+    let words = Sort::Word(Word::If).is(Lexeme::Word(Word::If).sort())
+        & !Sort::Word(Word::If).is(Sort::Word(Word::Integer));
+    let others = (Lexeme::Integer(7).count() == Some(7)) & (Lexeme::End.count() == None);
+    assert!(rt; words & others & (counts(rt.alloc()) == Some(true)));
 }
