@@ -16,6 +16,3 @@ pub use change::{Change, Fresh, Seen};
 pub use fitting::fits;
 pub use laws::{composed_does_both, difference_gives_newer};
 pub use patch::BodyPatch;
-
-#[cfg(test)]
-mod tests;

@@ -9,6 +9,3 @@ mod fault;
 pub use catalogue::Catalogue;
 pub use definition::{Def, DefKind};
 pub use fault::SchemaFault;
-
-#[cfg(test)]
-mod tests;

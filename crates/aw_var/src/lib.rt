@@ -17,6 +17,3 @@ pub use laws::{
     composed_does_both, difference_gives_newer, difference_tells_apart, overwritten_is_map,
 };
 pub use variable::{Patch, Variable};
-
-#[cfg(test)]
-mod tests;

@@ -1,9 +1,8 @@
 ghost use Rattle.std.specs.Prelude.{◌≡◌, ◌∷◌, [], IfOk};
 ghost use Rattle.aw_cell.specs.declared.cell.Kind.TheVariants.{Int as Integer};
 
-use crate::{
-    Body, BodyPatch, Change, Fresh, Seen, apply, compose, composed_does_both, difference,
-    difference_gives_newer, fits,
+use aw_body::{
+    Body, BodyPatch, apply, compose, composed_does_both, difference, difference_gives_newer, fits,
 };
 use aw_cell::{Cell, Kind, Text};
 use aw_dim::Dimension;
@@ -19,7 +18,7 @@ fn key(slot: u16) -> Coord
     Coord::of(&[slot]).unwrap()
 }
 
-/// Two cells of an INTEGER variable over one dimension.
+// Two cells of an INTEGER variable over one dimension.
 fn integers(alloc: Global, one: (u16, i32), other: (u16, i32)) -> Result<Variable, AllocError>
     ensures slots { IfOk result (λ variable. variable.slots ≡ 1) }
     ensures kind { IfOk result (λ variable. variable.kind ≡ Integer) }
@@ -46,7 +45,7 @@ fn has_changes(patch: &Option<BodyPatch>, expected: &Patch) -> bool {
     }
 }
 
-/// Cells that are set, changed and taken away: what differs, and what it makes of the older cells.
+// Cells that are set, changed and taken away: what differs, and what it makes of the older cells.
 fn cells_differ(alloc: Global) -> Result<bool, AllocError> {
     let older = integers(alloc, (1, 5), (2, 7))?;
     let newer = integers(alloc, (1, 5), (3, 9))?;
@@ -58,7 +57,7 @@ fn cells_differ(alloc: Global) -> Result<bool, AllocError> {
     Ok(has_changes(&patch, &expected) & none.is_none())
 }
 
-/// A variable of which all cells are taken away.
+// A variable of which all cells are taken away.
 fn cells_go(alloc: Global) -> Result<bool, AllocError> {
     let older = integers(alloc, (1, 5), (2, 7))?;
     let patch = two_changes(alloc, (1, Cell::Na), (2, Cell::Na))?;
@@ -116,7 +115,7 @@ fn values_fit(newer: Dimension, latest: Dimension) -> bool {
     fits_object(&patch, DefKind::Dimension, &latest)
 }
 
-/// Adds a value, and says whether it got slot 0.
+// Adds a value, and says whether it got slot 0.
 fn gets_a_value(values: &mut Dimension) -> bool {
     match Text::of(b"North") {
         Some(name) if !name.bytes().is_empty() => values.add(name, 0) == Ok(0),
@@ -134,10 +133,10 @@ fn is_kept(alloc: Global, kind: DefKind) -> bool {
 #[test]
 fn bodies_change_by_patches(rt: HostRuntime) -> Result<(), Fail> {
     let alloc = rt.alloc();
-    assert!(rt; cells_differ(alloc)? & cells_go(alloc)?);
-    assert!(rt; later_changes_decide(alloc)? & slots_change(alloc)?);
+    let cells = cells_differ(alloc)? & cells_go(alloc)? & later_changes_decide(alloc)?;
     difference_gives_newer();
     composed_does_both();
+    assert!(rt; cells & slots_change(alloc)?);
     Ok(())
 }
 
@@ -166,24 +165,6 @@ fn the_next_slot_falls(alloc: Global) -> bool {
 #[test]
 fn the_next_slot_never_falls(rt: HostRuntime) {
     let alloc = rt.alloc();
-    assert!(rt; the_next_slot_rises(alloc));
-    assert!(rt; !the_next_slot_falls(alloc));
-    assert!(rt; is_kept(alloc, DefKind::Dimension));
-}
-
-fn needs_send_and_sync<T: Send + Sync + Drop>(_: T) {}
-
-#[test]
-fn goes_to_another_thread(rt: HostRuntime) {
-    let alloc = rt.alloc();
-    let patch = BodyPatch::Slots(List::new(alloc));
-    needs_send_and_sync(Change { object: 0, patch });
-    let body = Body::Set(List::new(alloc));
-    let (object, number) = (0, 1);
-    needs_send_and_sync(Fresh {
-        object,
-        number,
-        body,
-    });
-    needs_send_and_sync(Seen { object, number });
+    let rises = the_next_slot_rises(alloc) & !the_next_slot_falls(alloc);
+    assert!(rt; rises & is_kept(alloc, DefKind::Dimension));
 }

@@ -1,7 +1,7 @@
-use crate::*;
 use aw_cell::{Cell, Kind};
-use aw_lists::{Coord, List};
+use aw_lists::Coord;
 use aw_page::Page;
+use aw_var::Variable;
 use std::alloc::{AllocError, Global};
 use std::test::Fail;
 
@@ -13,14 +13,7 @@ fn keeps(alloc: Global, at: &Coord) -> Result<bool, AllocError> {
     Ok((sales.get(at) == Cell::Na) & (before.get(at) == Cell::Int(7)) & (before != sales))
 }
 
-#[test]
-fn a_copy_keeps_its_cells(rt: HostRuntime) -> Result<(), Fail> {
-    let at = Coord::of(&[3, 64]).ok_or("two slots")?;
-    assert!(rt; keeps(rt.alloc(), &at)?);
-    Ok(())
-}
-
-/// Whether the cells at two keys come in this order, and are counted.
+// Whether the cells at two keys come in this order, and are counted.
 fn goes_over(alloc: Global, first: &Coord, second: &Coord) -> Result<bool, AllocError> {
     if first.slots().len() != second.slots().len() {
         return Ok(false);
@@ -34,15 +27,7 @@ fn goes_over(alloc: Global, first: &Coord, second: &Coord) -> Result<bool, Alloc
     Ok(one & other & left.next().is_none() & (sales.len() == 2))
 }
 
-#[test]
-fn gives_its_cells_in_order(rt: HostRuntime) -> Result<(), Fail> {
-    let first = Coord::of(&[3]).ok_or("a slot")?;
-    let second = Coord::of(&[70]).ok_or("a slot")?;
-    assert!(rt; goes_over(rt.alloc(), &first, &second)?);
-    Ok(())
-}
-
-/// Whether a page has a cell at a place.
+// Whether a page has a cell at a place.
 fn has_at(page: Option<&Page>, place: u8, cell: Cell) -> bool {
     match page {
         Some(page) => place < 64 && page.get(place) == cell,
@@ -57,17 +42,16 @@ fn lends(alloc: Global, at: &Coord) -> Result<bool, AllocError> {
 }
 
 #[test]
-fn lends_its_pages(rt: HostRuntime) -> Result<(), Fail> {
-    let at = Coord::of(&[70]).ok_or("a slot")?;
-    assert!(rt; lends(rt.alloc(), &at)?);
+fn a_copy_keeps_its_cells(rt: HostRuntime) -> Result<(), Fail> {
+    let at = Coord::of(&[3, 64]).ok_or("two slots")?;
+    assert!(rt; keeps(rt.alloc(), &at)?);
     Ok(())
 }
 
-fn needs_send_and_sync<T: Send + Sync + Drop>(_: T) {}
-
 #[test]
-fn goes_to_another_thread(rt: HostRuntime) {
-    needs_send_and_sync(Variable::new(rt.alloc(), 0, Kind::Text));
-    needs_send_and_sync(VarFault::Full);
-    needs_send_and_sync::<Patch>(List::new(rt.alloc()));
+fn cells_and_pages_are_given_in_order(rt: HostRuntime) -> Result<(), Fail> {
+    let first = Coord::of(&[3]).ok_or("a slot")?;
+    let second = Coord::of(&[70]).ok_or("a slot")?;
+    assert!(rt; goes_over(rt.alloc(), &first, &second)? & lends(rt.alloc(), &second)?);
+    Ok(())
 }

@@ -1,13 +1,12 @@
 ghost use Rattle.std.specs.Prelude.{IsTrue, ◌≤◌, length};
 ghost use Rattle.aw_schema.specs.Definitions.{has_form};
 
-use crate::{Catalogue, Def, DefKind, SchemaFault};
 use aw_cell::{Kind, Text, is_name};
 use aw_lists::{Coord, List};
+use aw_schema::{Catalogue, Def, DefKind, SchemaFault};
 use std::alloc::Global;
-use std::test::Fail;
 
-/// Whether this is what the catalogue answers to a definition.
+// Whether this is what the catalogue answers to a definition.
 fn answers(
     catalogue: &mut Catalogue,
     name: &[u8],
@@ -88,7 +87,7 @@ fn the_first_refusal_decides(alloc: Global) -> bool {
         & catalogue.def(4).is_none()
 }
 
-/// A catalogue of formulas, as many as there may be.
+// A catalogue of formulas, as many as there may be.
 fn full(alloc: Global) -> Option<Catalogue> {
     let mut catalogue = Catalogue::new(alloc);
     for first in b'a'..=b'p' {
@@ -127,21 +126,7 @@ fn a_full_one_takes_no_more(alloc: Global) -> bool {
 }
 
 #[test]
-fn refuses_in_order(rt: HostRuntime) -> Result<(), Fail> {
-    assert!(rt; the_first_refusal_decides(rt.alloc()));
-    assert!(rt; a_full_one_takes_no_more(rt.alloc()));
-    Ok(())
-}
-
-fn needs_send_and_sync<T: Send + Sync + Drop>(_: T) {}
-
-#[test]
-fn goes_to_another_thread(rt: HostRuntime) -> Result<(), Fail> {
-    needs_send_and_sync(Catalogue::new(rt.alloc()));
-    needs_send_and_sync(relation(0, 0));
-    needs_send_and_sync(SchemaFault::TooMany);
-    let name = Text::of(b"d").ok_or("a text")?;
-    let kind = DefKind::Dimension;
-    needs_send_and_sync(Def { name, kind });
-    Ok(())
+fn refuses_in_order(rt: HostRuntime) {
+    let alloc = rt.alloc();
+    assert!(rt; the_first_refusal_decides(alloc) & a_full_one_takes_no_more(alloc));
 }
