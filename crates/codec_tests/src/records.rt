@@ -10,7 +10,6 @@ use aw_dim::Dimension;
 use aw_lists::{Coord, List};
 use aw_schema::{Catalogue, Def, DefKind};
 use std::alloc::{AllocError, Global};
-use std::test::Fail;
 
 // Eight definitions: the dimensions `d` and `e`, `r` from `d` to `e`, `s` of `d`, `v NUMBER <d e>`,
 // `f` of `v*2`, `p` of `RETURN`, and `m` of `RELATION r OPERATOR SUM`.
@@ -114,16 +113,24 @@ fn reads_as(alloc: Global, bytes: &[u8], catalogue: &Catalogue) -> bool {
     }
 }
 
-#[test]
-fn definitions_of_every_kind_go_round(rt: HostRuntime) -> Result<(), Fail> {
-    let alloc = rt.alloc();
+fn so(found: Result<bool, AllocError>) -> bool {
+    match found {
+        Ok(is_so) => is_so,
+        Err(_) => false,
+    }
+}
+
+fn definitions_go_round(alloc: Global) -> bool {
     let mut catalogue = Catalogue::new(alloc);
-    let defined = kept_kinds(&mut catalogue) & texted_kinds(alloc, &mut catalogue)?;
-    let round = spells(alloc, &catalogue, EIGHT) & reads_as(alloc, EIGHT, &catalogue);
+    let defined = kept_kinds(&mut catalogue) & so(texted_kinds(alloc, &mut catalogue));
+    defined & spells(alloc, &catalogue, EIGHT) & reads_as(alloc, EIGHT, &catalogue)
+}
+
+#[test]
+fn definitions_of_every_kind_go_round(rt: HostRuntime) {
     spellings_differ();
     wholes_are_records();
-    assert!(rt; defined & round);
-    Ok(())
+    assert!(rt; definitions_go_round(rt.alloc()));
 }
 
 fn same_patch(one: &BodyPatch, other: &BodyPatch) -> bool {
@@ -227,22 +234,22 @@ fn numbers_go_round(alloc: Global, bytes: &[u8]) -> Result<bool, AllocError> {
 }
 
 #[test]
-fn patches_of_every_kind_go_round(rt: HostRuntime) -> Result<(), Fail> {
+fn patches_of_every_kind_go_round(rt: HostRuntime) {
     let alloc = rt.alloc();
-    let round = values_go_round(
+    let values = values_go_round(
         alloc,
         b"C\x01\0\x01\0\0L\0\0\0\x03\0\0\0\x02\0\x02\x05North\0\0\x04East",
-    )? & slots_go_round(alloc, b"C\x01\0\x01\0\x03S\0\0\0\x02\0\x02\0\0")?
-        & relation_goes_round(
-            alloc,
-            b"C\x01\0\x01\0\x02M\x01\0\0\0\x02\0\0\x05\0\x01\0\x02\0",
-        )?
-        & numbers_go_round(
-            alloc,
-            b"C\x01\0\x01\0\x04M\x02\0\0\0\x03\0\0\0\x01\x01\0\0\0\0\0\0\x3a\x98\0\x02\0\0\0\0\x02\0\x01\x01\xff\xff\xff\xff\xff\xff\xff\xff",
-        )?;
-    assert!(rt; round);
-    Ok(())
+    );
+    let slots = slots_go_round(alloc, b"C\x01\0\x01\0\x03S\0\0\0\x02\0\x02\0\0");
+    let relation = relation_goes_round(
+        alloc,
+        b"C\x01\0\x01\0\x02M\x01\0\0\0\x02\0\0\x05\0\x01\0\x02\0",
+    );
+    let numbers = numbers_go_round(
+        alloc,
+        b"C\x01\0\x01\0\x04M\x02\0\0\0\x03\0\0\0\x01\x01\0\0\0\0\0\0\x3a\x98\0\x02\0\0\0\0\x02\0\x01\x01\xff\xff\xff\xff\xff\xff\xff\xff",
+    );
+    assert!(rt; so(values) & so(slots) & so(relation) & so(numbers));
 }
 
 // A cell of a variable without dimensions that is object 5.
@@ -271,24 +278,25 @@ fn text(bytes: &[u8]) -> Cell {
 }
 
 #[test]
-fn cells_of_every_type_go_round(rt: HostRuntime) -> Result<(), Fail> {
+fn cells_of_every_type_go_round(rt: HostRuntime) {
     let alloc = rt.alloc();
-    let round = cell_goes_round(
+    let texts = cell_goes_round(
         alloc,
         Kind::Text,
         text(b"Hi"),
         b"C\x01\0\x01\0\x05M\0\0\0\0\x01\x03\x02Hi",
-    )? & cell_goes_round(
+    );
+    let truths = cell_goes_round(
         alloc,
         Kind::Bool,
         Cell::Bool(true),
         b"C\x01\0\x01\0\x05M\0\0\0\0\x01\x04\x01",
-    )? & cell_goes_round(
+    );
+    let integers = cell_goes_round(
         alloc,
         Kind::Int,
         Cell::Int(7),
         b"C\x01\0\x01\0\x05M\0\0\0\0\x01\x02\0\0\0\x07",
-    )?;
-    assert!(rt; round);
-    Ok(())
+    );
+    assert!(rt; so(texts) & so(truths) & so(integers));
 }
