@@ -1,5 +1,5 @@
 -- Going over the sheets of two maps at once.
-use Rattle.std.proofs.Common.{◌≡◌, ℕ, suc, ◌+◌, ◌-◌, ◌*◌, ◌/◌, ◌%◌, ◌^◌, ◌<◌, ◌≤◌, Bool, true, false, cond, not, List, [], ◌∷◌, ◌++◌, length, min, Option, Some, None, unwrap_or, refl, sym, ap, subst, ◌∙◌, append_assoc, append-nil, arith}
+use Rattle.std.proofs.Common.{◌≡◌, ℕ, zero, suc, ◌+◌, ◌-◌, ◌*◌, ◌/◌, ◌%◌, ◌^◌, ◌<◌, ◌≤◌, Bool, true, false, cond, not, List, [], ◌∷◌, ◌++◌, length, min, Option, Some, None, unwrap_or, refl, sym, ap, subst, ◌∙◌, append_assoc, append-nil, arith}
 use Rattle.std.specs.Prelude.{nat_lt}
 use Rattle.std.specs.Ordering.{nat_cmp, is_eq}
 use Rattle.std.specs.FinMap.{find, nat_cmp-IsAntisymmetric}
@@ -54,6 +54,16 @@ pub changes-none : (slots : ℕ) (before now : Option SheetCells) (from place : 
 changes-none slots before now from place items goal h is =
     let none : 64 - place ≡ 0 = omega arith in
     sym (append-nil items) ∙ ap (λ (r : List (ℕ × Cell)). items ++ with_coords slots r) (sym (no-changes before now from place) ∙ ap (changes_on before now from place) (sym none)) ∙ is
+
+-- a sheet has no changes against itself
+no-change : (sheet : Option SheetCells) (from place left : ℕ) → changes_on sheet sheet from place left ≡ []
+no-change sheet from place zero = no-changes sheet sheet from place
+no-change sheet from place (suc left) =
+    first-same sheet sheet from place (suc left) left refl ((same_cell-Decides (cell_on sheet place) (cell_on sheet place)).1 refl) ∙ no-change sheet from (place + 1) left
+
+pub unchanged : (slots : ℕ) (before now : Option SheetCells) (from : ℕ) (items : Cells) → before ≡ now → items ≡ items ++ with_coords slots (changes_on before now from 0 64)
+unchanged slots before now from items same =
+    sym (append-nil items) ∙ ap (λ (r : List (ℕ × Cell)). items ++ with_coords slots r) (sym (no-change before from 0 64) ∙ ap (λ (s : Option SheetCells). changes_on before s from 0 64) same)
 
 -- what is there has a number below the bound
 found_below : (slots n : ℕ) (cells : List (ℕ × Cell)) → below slots cells ≡ true → (cell_of cells n ≡ Na → ⊥) → n < 65536 ^ slots

@@ -65,7 +65,7 @@ same_sheets kind xs ys f g same =
 abbrev pub sheet_eq : SheetCells → SheetCells → Bool
 sheet_eq one other = beq one.0 other.0 && pointwise same_cell one.1 other.1
 
-sheet_eq-Decides : (a b : SheetCells) → Decides (sheet_eq a b) (a ≡ b)
+pub sheet_eq-Decides : (a b : SheetCells) → Decides (sheet_eq a b) (a ≡ b)
 sheet_eq-Decides a b =
     let d = booleans_Decides a.0 b.0 in
     let e = slice_eq-Decides same_cell-Decides a.1 b.1 (pointwise same_cell a.1 b.1) refl in (

@@ -4,7 +4,7 @@ ghost use Rattle.aw_lists.specs.Coord.{packed, AreSlots};
 ghost use Rattle.aw_var.specs.inside.Differences.{changes_on, ChangesFit, lesser_of};
 ghost use Rattle.aw_var.specs.inside.Unpacking.{unpacked, with_coords};
 
-use crate::sheet::{Sheet, cell_in};
+use crate::sheet::{Sheet, cell_in, is_same_in, is_unchanged};
 use aw_cell::Cell;
 use aw_lists::Coord;
 use std::alloc::AllocError;
@@ -80,11 +80,28 @@ pub fn push_changes(
     requires fits { ChangesFit slots page (option_copied before) (option_copied now) }
     ensures { OnOk result (patch.new.items ≡ patch.old.items ++ with_coords slots (changes_on (option_copied before.entry) (option_copied now.entry) (64 * page) 0 64)) }
 {
+    // Most pages are as before, and those are compared at once.
+    if is_unchanged(before, now) {
+        return Ok(());
+    }
+    push_each(patch, slots, page, before, now)
+}
+
+fn push_each(
+    patch: &mut Vec<(Coord, Cell)>,
+    slots: u8,
+    page: u128,
+    before: Option<&Sheet>,
+    now: Option<&Sheet>,
+) -> Result<(), AllocError>
+    requires few { slots ≤ 6 }
+    requires fits { ChangesFit slots page (option_copied before) (option_copied now) }
+    ensures { OnOk result (patch.new.items ≡ patch.old.items ++ with_coords slots (changes_on (option_copied before.entry) (option_copied now.entry) (64 * page) 0 64)) }
+{
     for place in 0..64 {
-        let (old, new) = (cell_in(before, place), cell_in(now, place));
-        if old != new {
+        if !is_same_in(before, now, place) {
             let coord = coord_of(slots, number_at(slots, page, place));
-            patch.push((coord, new))?;
+            patch.push((coord, cell_in(now, place)))?;
         }
     }
     Ok(())

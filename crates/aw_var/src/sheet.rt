@@ -1,7 +1,8 @@
-ghost use Rattle.std.specs.Prelude.{◌≡◌, ◌<◌, ◌↔◌, length, replicate, slice_get, slice_set, Some, IsTrue, IfSome, IfOk, IsNone, OnOk, OnErr};
+ghost use Rattle.std.specs.Prelude.{◌≡◌, ◌<◌, ◌↔◌, length, replicate, slice_get, slice_index_or, slice_set, Some, IsTrue, IfSome, IfOk, IsNone, OnOk, OnErr};
 ghost use Rattle.std.specs.Arc.{arc_value};
 ghost use Rattle.std.specs.List.{list_all};
 ghost use Rattle.aw_cell.specs.declared.cell.Cell.TheVariants.{Na};
+ghost use Rattle.aw_cell.specs.Cell.{same_cell};
 ghost use Rattle.aw_page.specs.Fitting.{is_na, is_of_kind, IsPlain, IsTextOrNa};
 ghost use Rattle.aw_var.specs.inside.Sheets.{is_text_kind};
 ghost use Rattle.aw_var.specs.inside.Shared.{IsHeldBy};
@@ -90,6 +91,17 @@ impl Sheet {
         match &self.page {
             Shared::Plain(page) => page.get(at),
             Shared::Text(page) => page.get(at),
+        }
+    }
+
+    /// Whether two sheets have the same cell at a place.
+    fn is_same_at(&self, other: &Sheet, at: u8) -> bool
+        requires { at < 64 }
+        ensures { result ≡ same_cell (slice_index_or self.now.1 at Na) (slice_index_or other.now.1 at Na) }
+    {
+        match (&self.page, &other.page) {
+            (Shared::Plain(one), Shared::Plain(other)) => one.get(at) == other.get(at),
+            _ => self.get(at) == other.get(at),
         }
     }
 
@@ -207,5 +219,26 @@ pub fn cell_in(sheet: Option<&Sheet>, at: u8) -> Cell
     match sheet {
         Some(sheet) => sheet.get(at),
         None => Cell::Na,
+    }
+}
+
+/// Whether a page has a sheet before and now, with the same cells.
+pub fn is_unchanged(before: Option<&Sheet>, now: Option<&Sheet>) -> bool
+    ensures { IsTrue result → option_copied before.entry ≡ option_copied now.entry }
+{
+    match (before, now) {
+        (Some(before), Some(now)) => *before == *now,
+        _ => false,
+    }
+}
+
+/// Whether a place of a page has the same cell before and now.
+pub fn is_same_in(before: Option<&Sheet>, now: Option<&Sheet>, at: u8) -> bool
+    requires { at < 64 }
+    ensures { result ≡ same_cell (cell_on (option_copied before.entry) at) (cell_on (option_copied now.entry) at) }
+{
+    match (before, now) {
+        (Some(before), Some(now)) => before.is_same_at(now, at),
+        _ => cell_in(before, at) == cell_in(now, at),
     }
 }
