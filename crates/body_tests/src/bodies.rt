@@ -1,5 +1,7 @@
 ghost use Rattle.std.specs.Prelude.{◌≡◌, ◌∷◌, [], IfOk};
 ghost use Rattle.aw_cell.specs.declared.cell.Kind.TheVariants.{Int as Integer};
+ghost use Rattle.aw_body.specs.Bodies.{AreAlike};
+ghost use Rattle.aw_body.specs.BodyPatches.{AreOfOneForm, CanTake};
 
 use aw_body::{
     Body, BodyPatch, apply, compose, composed_does_both, difference, difference_gives_newer, fits,
@@ -10,7 +12,6 @@ use aw_lists::{Coord, List};
 use aw_schema::{Def, DefKind};
 use aw_var::{Patch, Variable};
 use std::alloc::{AllocError, Global};
-use std::test::Fail;
 
 fn key(slot: u16) -> Coord
     ensures { result ≡ slot ∷ [] }
@@ -45,49 +46,129 @@ fn has_changes(patch: &Option<BodyPatch>, expected: &Patch) -> bool {
     }
 }
 
-// Cells that are set, changed and taken away: what differs, and what it makes of the older cells.
+fn so(found: Result<bool, AllocError>) -> bool {
+    match found {
+        Ok(is_so) => is_so,
+        Err(_) => false,
+    }
+}
+
+fn differ_by(
+    alloc: Global,
+    older: &Body,
+    newer: &Body,
+    expected: &Patch,
+) -> Result<bool, AllocError>
+    requires { AreAlike older.now newer.now }
+{
+    let patch = difference(alloc, older, newer)?;
+    Ok(has_changes(&patch, expected))
+}
+
+// Cells that are set, changed and taken away.
 fn cells_differ(alloc: Global) -> Result<bool, AllocError> {
+    let expected = two_changes(alloc, (2, Cell::Na), (3, Cell::Int(9)))?;
     let older = integers(alloc, (1, 5), (2, 7))?;
     let newer = integers(alloc, (1, 5), (3, 9))?;
-    let same = integers(alloc, (3, 9), (1, 5))?;
-    let (older, newer, same) = (Body::Var(older), Body::Var(newer), Body::Var(same));
-    let patch = difference(alloc, &older, &newer)?;
-    let expected = two_changes(alloc, (2, Cell::Na), (3, Cell::Int(9)))?;
-    let none = difference(alloc, &newer, &same)?;
-    Ok(has_changes(&patch, &expected) & none.is_none())
+    differ_by(alloc, &Body::Var(older), &Body::Var(newer), &expected)
+}
+
+fn are_same(alloc: Global, one: &Body, other: &Body) -> Result<bool, AllocError>
+    requires { AreAlike one.now other.now }
+{
+    Ok(difference(alloc, one, other)?.is_none())
+}
+
+// The order in which cells were put makes no difference.
+fn cells_are_same(alloc: Global) -> Result<bool, AllocError> {
+    let one = integers(alloc, (1, 5), (3, 9))?;
+    let other = integers(alloc, (3, 9), (1, 5))?;
+    are_same(alloc, &Body::Var(one), &Body::Var(other))
+}
+
+fn is_left_empty(alloc: Global, body: &Body, patch: &BodyPatch) -> Result<bool, AllocError>
+    requires { CanTake body.now patch.now }
+{
+    match apply(alloc, body, patch)? {
+        Body::Var(cells) => Ok(cells.is_empty()),
+        _ => Ok(false),
+    }
 }
 
 // A variable of which all cells are taken away.
 fn cells_go(alloc: Global) -> Result<bool, AllocError> {
     let older = integers(alloc, (1, 5), (2, 7))?;
     let patch = two_changes(alloc, (1, Cell::Na), (2, Cell::Na))?;
-    let newer = apply(alloc, &Body::Var(older), &BodyPatch::Cells(patch))?;
-    match newer {
-        Body::Var(cells) => Ok(cells.is_empty()),
-        _ => Ok(false),
-    }
+    is_left_empty(alloc, &Body::Var(older), &BodyPatch::Cells(patch))
+}
+
+fn composes_to(
+    alloc: Global,
+    first: &BodyPatch,
+    second: &BodyPatch,
+    expected: &Patch,
+) -> Result<bool, AllocError>
+    requires { AreOfOneForm first.now second.now }
+{
+    let both = compose(alloc, first, second)?;
+    Ok(has_changes(&Some(both), expected))
+}
+
+fn three_changes(
+    alloc: Global,
+    one: (u16, Cell),
+    other: (u16, Cell),
+    last: (u16, Cell),
+) -> Result<Patch, AllocError> {
+    let mut patch = two_changes(alloc, one, other)?;
+    patch.push((key(last.0), last.1))?;
+    Ok(patch)
 }
 
 fn later_changes_decide(alloc: Global) -> Result<bool, AllocError> {
     let first = two_changes(alloc, (2, Cell::Na), (3, Cell::Int(9)))?;
     let second = two_changes(alloc, (3, Cell::Na), (4, Cell::Int(1)))?;
-    let (first, second) = (BodyPatch::Cells(first), BodyPatch::Cells(second));
-    let mut expected = two_changes(alloc, (2, Cell::Na), (3, Cell::Na))?;
-    expected.push((key(4), Cell::Int(1)))?;
-    let both = compose(alloc, &first, &second)?;
-    Ok(has_changes(&Some(both), &expected))
+    let expected = three_changes(alloc, (2, Cell::Na), (3, Cell::Na), (4, Cell::Int(1)))?;
+    composes_to(
+        alloc,
+        &BodyPatch::Cells(first),
+        &BodyPatch::Cells(second),
+        &expected,
+    )
+}
+
+fn makes_slots(
+    alloc: Global,
+    body: &Body,
+    patch: &BodyPatch,
+    expected: &[u16],
+) -> Result<bool, AllocError>
+    requires { CanTake body.now patch.now }
+{
+    match apply(alloc, body, patch)? {
+        Body::Set(slots) => Ok(slots.as_slice() == expected),
+        _ => Ok(false),
+    }
+}
+
+// Whether what differs between two valuesets makes these slots of the older one.
+fn difference_makes(
+    alloc: Global,
+    older: List<u16>,
+    newer: List<u16>,
+    expected: &[u16],
+) -> Result<bool, AllocError> {
+    let (older, newer) = (Body::Set(older), Body::Set(newer));
+    match difference(alloc, &older, &newer)? {
+        Some(patch) => makes_slots(alloc, &older, &patch, expected),
+        None => Ok(false),
+    }
 }
 
 fn slots_change(alloc: Global) -> Result<bool, AllocError> {
-    let older = Body::Set(List::from_slice(alloc, &[3, 1])?);
-    let newer = Body::Set(List::from_slice(alloc, &[1, 3])?);
-    let Some(patch) = difference(alloc, &older, &newer)? else {
-        return Ok(false);
-    };
-    match apply(alloc, &older.copied(alloc)?, &patch)? {
-        Body::Set(slots) => Ok(slots.as_slice() == [1, 3].as_slice()),
-        _ => Ok(false),
-    }
+    let older = List::from_slice(alloc, &[3, 1])?;
+    let newer = List::from_slice(alloc, &[1, 3])?;
+    difference_makes(alloc, older, newer, &[1, 3])
 }
 
 fn fits_object(patch: &BodyPatch, kind: DefKind, latest: &Body) -> bool {
@@ -131,25 +212,27 @@ fn is_kept(alloc: Global, kind: DefKind) -> bool {
 }
 
 #[test]
-fn bodies_change_by_patches(rt: HostRuntime) -> Result<(), Fail> {
+fn bodies_change_by_patches(rt: HostRuntime) {
     let alloc = rt.alloc();
-    let cells = cells_differ(alloc)? & cells_go(alloc)? & later_changes_decide(alloc)?;
+    let differences = so(cells_differ(alloc)) & so(cells_are_same(alloc));
+    let changes = so(cells_go(alloc)) & so(slots_change(alloc)) & so(later_changes_decide(alloc));
     difference_gives_newer();
     composed_does_both();
-    assert!(rt; cells & slots_change(alloc)?);
-    Ok(())
+    assert!(rt; differences & changes);
+}
+
+fn keys_and_cells_fit(alloc: Global) -> bool {
+    so(cells_fit(alloc, (1, Cell::Na), (2, Cell::Int(-2_147_483_647))))
+        & !so(cells_fit(alloc, (2, Cell::Na), (1, Cell::Na)))
+        & !so(cells_fit(alloc, (1, Cell::Na), (2, Cell::Int(i32::MIN))))
+        & !so(cells_fit(alloc, (1, Cell::Na), (2, Cell::Bool(true))))
 }
 
 #[test]
-fn what_records_hold_fits(rt: HostRuntime) -> Result<(), Fail> {
+fn what_records_hold_fits(rt: HostRuntime) {
     let alloc = rt.alloc();
-    let cells = cells_fit(alloc, (1, Cell::Na), (2, Cell::Int(-2_147_483_647)))?
-        & !cells_fit(alloc, (2, Cell::Na), (1, Cell::Na))?
-        & !cells_fit(alloc, (1, Cell::Na), (2, Cell::Int(i32::MIN)))?
-        & !cells_fit(alloc, (1, Cell::Na), (2, Cell::Bool(true)))?;
-    let slots = slots_fit(alloc, &[65_535, 0])? & !slots_fit(alloc, &[7, 1, 7])?;
-    assert!(rt; cells & slots);
-    Ok(())
+    let slots = so(slots_fit(alloc, &[65_535, 0])) & !so(slots_fit(alloc, &[7, 1, 7]));
+    assert!(rt; slots & keys_and_cells_fit(alloc));
 }
 
 fn the_next_slot_rises(alloc: Global) -> bool {
