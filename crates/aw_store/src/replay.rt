@@ -1,4 +1,4 @@
-ghost use Rattle.std.specs.Prelude.{◌≡◌, ◌≢◌, ◌≤◌, ◌<◌, ◌^◌, ◌++◌, ◌∷◌, [], ℕ, List as Items, length, map, MatchOption, All, Ok, IsTrue, IfOk, IfErr, true, false};
+ghost use Rattle.std.specs.Prelude.{◌≡◌, ◌≢◌, ◌↔◌, ◌≤◌, ◌<◌, ◌^◌, ◌++◌, ◌∷◌, [], ℕ, List as Items, length, map, MatchOption, All, Ok, IsTrue, IfOk, IfErr, true, false};
 ghost use Rattle.std.specs.Option.{is_none};
 ghost use Rattle.aw_schema.specs.Checking.{refusal};
 ghost use Rattle.aw_schema.specs.Definitions.{is_spellable};
@@ -198,7 +198,7 @@ fn accept(catalogue: &mut Catalogue, def: Def) -> Result<bool, NoMemory>
 
 /// Whether a definition was refused, and memory didn't run out.
 fn is_refusal(fault: &SchemaFault) -> bool
-    ensures { IsTrue result → fault.now ≢ SchemaFault.NoMemory }
+    ensures { IsTrue result ↔ (fault.now ≢ SchemaFault.NoMemory) }
 {
     !matches!(fault, SchemaFault::NoMemory)
 }

@@ -6,4 +6,4 @@ returns-in-Ok-clause-accepted c = accepted-ok c.args.catalogue.now c.args.def c.
 
 pub returns-then-is_refusal-clause-accepted : goal.returns-then-is_refusal-clause-accepted
 returns-then-is_refusal-clause-accepted c =
-    refused-err c.args.catalogue.now c.args.def c.in-Err.fault (c.is_refusal.ensures c.if-is_refusal.true) c.in-Err.ensures.answer
+    refused-err c.args.catalogue.now c.args.def c.in-Err.fault (c.is_refusal.ensures.0 c.if-is_refusal.true) c.in-Err.ensures.answer
