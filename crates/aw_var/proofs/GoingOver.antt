@@ -1,5 +1,5 @@
 -- Going over the sheets of two maps at once.
-use Rattle.std.proofs.Common.{◌≡◌, ℕ, zero, suc, ◌+◌, ◌-◌, ◌*◌, ◌/◌, ◌%◌, ◌^◌, ◌<◌, ◌≤◌, Bool, true, false, cond, not, List, [], ◌∷◌, ◌++◌, length, min, Option, Some, None, unwrap_or, refl, sym, ap, subst, ◌∙◌, append_assoc, append-nil, arith}
+use Rattle.std.proofs.Common.{◌≡◌, ℕ, zero, suc, ◌+◌, ◌-◌, ◌*◌, ◌/◌, ◌%◌, ◌^◌, ◌<◌, ◌≤◌, Bool, true, false, cond, List, [], ◌∷◌, ◌++◌, length, min, Option, Some, None, unwrap_or, refl, sym, ap, subst, ◌∙◌, append_assoc, append-nil, arith}
 use Rattle.std.specs.Prelude.{nat_lt}
 use Rattle.std.specs.Ordering.{nat_cmp, is_eq}
 use Rattle.std.specs.FinMap.{find, nat_cmp-IsAntisymmetric}
@@ -186,14 +186,6 @@ fewer olds news olds' news' page None None least old new = absurd (one (first_pa
         let f' : x ≡ page → ⊥ = λ s. f (ap (λ (n : ℕ). Some n) s) in
         let g' : y ≡ page → ⊥ = λ s. g (ap (λ (n : ℕ). Some n) s) in
         omega arith
-
-pub differs : (b : Bool) → true ≡ not b → b ≡ false
-differs true e = cc
-differs false e = refl
-
-pub is_same : (b : Bool) → false ≡ not b → b ≡ true
-is_same true e = refl
-is_same false e = cc
 
 pub left_begin : (kind kind' : Kind) (slots : ℕ) (olds news olds' news' : Sheets) (items : Cells) (a b : NumberedMap) → olds' ≡ olds → news' ≡ news → items ≡ [] →
     AreSheets kind news → AreSheets kind' olds → shown kind news ≡ b → shown kind' olds ≡ a → b.kind ≡ a.kind →
