@@ -1,0 +1,49 @@
+-- Whether an expression is accepted, and what refuses it first.
+use Rattle.std.specs.Prelude.{ℕ, ◌≡◌, ◌⊎◌, Bool, nat_le, List, Option, Some, None, Result, Ok, Err, is_some, unwrap_or, if◌then◌else◌}
+use Rattle.std.specs.Option.{option_or}
+use Rattle.dml_tree.specs.Weight.{weight}
+use Rattle.dml_tree.specs.declared.expr.Expr.{Expr}
+use Rattle.dml_kinds.specs.declared.fault.TypeFault.{TypeFault}
+use Rattle.dml_kinds.specs.declared.fault.TypeFault.TheVariants.{Mismatch, Dimensions, TooMany, NoMemory}
+use Rattle.dml_kinds.specs.declared.types.ValueType.TheVariants.{Na}
+use Rattle.dml_kinds.specs.declared.checking.TypedExpr.{TypedExpr}
+use Rattle.dml_kinds.specs.Meanings.{Names, weight_named}
+use Rattle.dml_kinds.specs.Names.{targets, uses, groups, names_refusal}
+use Rattle.dml_kinds.specs.Types.{type_of}
+use Rattle.dml_kinds.specs.FreeDimensions.{free_dimensions, dimensions_fit}
+
+abbrev pub unless : Bool → TypeFault → Option TypeFault
+unless holds fault = if holds then None else Some fault
+
+-- The first that applies decides: what refuses the names, types that don't fit, dimensions that don't fit, and a weight over
+-- 4,096.
+abbrev pub first_refusal : Option TypeFault → Bool → Bool → ℕ → Option TypeFault
+first_refusal of_names types_fit dimensions_fit weight =
+    option_or of_names
+    (option_or (unless types_fit Mismatch) (option_or (unless dimensions_fit Dimensions) (unless (nat_le weight 4096) TooMany)))
+
+-- what isn't refused has this value
+abbrev pub answer : {X : Type 0} → Option TypeFault → X → Result X TypeFault
+answer (Some fault) value = Err fault
+answer None value = Ok value
+
+-- this answer, or want of memory
+abbrev pub IsAnswer : {X : Type 0} → Result X TypeFault → Result X TypeFault → Type 0
+IsAnswer result given = (result ≡ Err NoMemory) ⊎ (result ≡ given)
+
+module _ (names : Names) where
+  abbrev pub expression_weight : Expr → ℕ
+  expression_weight e = weight (weight_named names) e
+
+  -- the type, which is there in an accepted expression, the free dimensions in order of first appearance, and the weight
+  abbrev pub typed : Expr → TypedExpr
+  typed e =
+      record { kind = unwrap_or (type_of names e) Na; dimensions = free_dimensions names e; weight = expression_weight e }
+
+  abbrev pub refusal : Expr → Option TypeFault
+  refusal e =
+      first_refusal (names_refusal names (uses (targets e)) (groups (targets e))) (is_some (type_of names e)) (dimensions_fit names e)
+      (expression_weight e)
+
+  abbrev pub expression_answer : Expr → Result TypedExpr TypeFault
+  expression_answer e = answer (refusal e) (typed e)

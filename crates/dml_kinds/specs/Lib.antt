@@ -1,0 +1,7 @@
+pub mod Checking
+pub mod FreeDimensions
+pub mod Meanings
+pub mod Names
+pub mod Signatures
+pub mod Types
+pub mod inside

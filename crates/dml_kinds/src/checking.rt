@@ -1,0 +1,94 @@
+ghost use Rattle.std.specs.Prelude.{◌≡◌, IfOk, is_some, None};
+ghost use Rattle.dml_kinds.specs.Meanings.{names_in};
+ghost use Rattle.dml_kinds.specs.Names as names;
+ghost use Rattle.dml_kinds.specs.Checking as spec;
+ghost use Rattle.dml_kinds.specs.inside.Parts.{part_answer, part_of};
+
+use crate::fault::TypeFault;
+use crate::gathering::{push_targets, push_value_uses};
+use crate::parts::{Part, part_of};
+use crate::scope::{Locals, Scope};
+use crate::signature::Signatures;
+use crate::types::ValueType;
+use aw_lists::Coord;
+use aw_schema::Catalogue;
+use dml_tree::Expr;
+use std::alloc::{AllocError, Global};
+
+/// What an accepted expression is (docs/LANGUAGE.md, "Types").
+#[derive(Clone, Copy, Debug)]
+pub struct TypedExpr {
+    /// Its type.
+    pub kind: ValueType,
+    /// Its free dimensions by their numbers, in order of first appearance.
+    pub dimensions: Coord,
+    /// Its weight, at most 4,096.
+    pub weight: u32,
+}
+
+/// Whether an expression is accepted where `catalogue` has these objects, whose texts mean what
+/// `known` tells of them, and the program has these locals, and what it is then. An object with a
+/// text of which nothing is told is unknown. Else the first refusal in the order of TypeFault, each
+/// for the first place from the left (docs/LANGUAGE.md, "Order of refusals").
+#[tactic(auto, using(crate::proofs::Settling::settled_expression, crate::proofs::Settling::refused_expression))]
+pub fn check_expr(
+    alloc: Global,
+    expr: &Expr,
+    catalogue: &Catalogue,
+    known: &Signatures,
+    locals: &Locals,
+) -> Result<TypedExpr, TypeFault>
+    ensures { spec.IsAnswer result (spec.expression_answer (names_in catalogue.now known.now locals.now) expr.now) }
+{
+    let scope = Scope {
+        catalogue,
+        known,
+        locals,
+    };
+    match refused_names(alloc, &scope, expr) {
+        Ok(Some(fault)) => Err(fault),
+        Ok(None) => found(alloc, &scope, expr),
+        Err(_) => Err(TypeFault::NoMemory),
+    }
+}
+
+/// What is answered where no name is refused.
+fn found(alloc: Global, scope: &Scope, expr: &Expr) -> Result<TypedExpr, TypeFault>
+    ensures { spec.IsAnswer result (part_answer (part_of (names_in scope.now.catalogue.now scope.now.known.now scope.now.locals.now) expr.now)) }
+{
+    match part_of(alloc, scope, expr) {
+        Ok(part) => settled(&part),
+        Err(_) => Err(TypeFault::NoMemory),
+    }
+}
+
+/// What refuses the names of an expression.
+fn refused_names(alloc: Global, scope: &Scope, expr: &Expr) -> Result<Option<TypeFault>, AllocError>
+    ensures { IfOk result (λ refusal. refusal ≡ names.names_refusal (names_in scope.now.catalogue.now scope.now.known.now scope.now.locals.now) (names.uses (names.targets expr.now)) (names.groups (names.targets expr.now))) }
+{
+    let mut targets = Vec::new(alloc);
+    push_targets(expr, &mut targets)?;
+    let mut uses = Vec::new(alloc);
+    push_value_uses(&targets, &mut uses)?;
+    scope.names_refusal(alloc, &uses, &[], &targets)
+}
+
+/// What is answered by what was found of an expression.
+fn settled(part: &Part) -> Result<TypedExpr, TypeFault>
+    ensures { result ≡ part_answer part.now }
+{
+    let Some(kind) = part.kind else {
+        return Err(TypeFault::Mismatch);
+    };
+    let Some(dimensions) = part.dimensions else {
+        return Err(TypeFault::Dimensions);
+    };
+    if part.weight > 4096 {
+        return Err(TypeFault::TooMany);
+    }
+    Ok(TypedExpr {
+        kind,
+        dimensions,
+        weight: part.weight,
+    })
+}
