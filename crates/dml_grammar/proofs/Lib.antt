@@ -1,0 +1,3 @@
+pub mod callers
+mod Fitting
+mod Limiting

@@ -1,0 +1,4 @@
+-- Lemmas that are offered to the crates above.
+pub mod Answering
+pub mod Answers
+pub mod Steps
