@@ -1,0 +1,4 @@
+mod Below
+mod Choosing
+mod Parting
+mod Worked
