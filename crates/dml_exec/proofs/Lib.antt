@@ -1,0 +1,10 @@
+mod Arriving
+mod Asking
+mod Gathering
+mod Going
+mod Keeping
+mod Kinding
+mod NeverStuck
+mod Placing
+mod MachineSteps
+mod Worked
