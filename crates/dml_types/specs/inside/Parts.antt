@@ -1,0 +1,54 @@
+-- What is answered of a statement by what was found of its expressions.
+use Rattle.std.specs.Prelude.{ℕ, ◌+◌, ◌&&◌, Bool, List, [], ◌∷◌, map, Option, None, Result, is_some, unwrap_or}
+use Rattle.std.specs.List.{list_all, filter_map}
+use Rattle.dml_tree.specs.declared.expr.Expr.{Expr}
+use Rattle.dml_tree.specs.declared.statement.Statement.{Statement}
+use Rattle.dml_kinds.specs.declared.fault.TypeFault.{TypeFault}
+use Rattle.dml_kinds.specs.declared.types.ValueType.TheVariants.{Na}
+use Rattle.dml_kinds.specs.declared.parts.Part.{Part}
+use Rattle.dml_kinds.specs.declared.checking.TypedExpr.{TypedExpr}
+use Rattle.dml_kinds.specs.Signatures.{Told}
+use Rattle.dml_kinds.specs.Meanings.{Names}
+use Rattle.dml_kinds.specs.declared.meaning.Use.{Use}
+use Rattle.dml_kinds.specs.Names.{named_object}
+use Rattle.dml_kinds.specs.Checking.{first_refusal, answer}
+use Rattle.dml_types.specs.declared.checking.Typed.{Typed}
+use Rattle.dml_kinds.specs.inside.Capped.{capped}
+use Rattle.dml_kinds.specs.inside.Parts.{part_of}
+use Rattle.dml_types.specs.declared.measuring.Found.{Found}
+use Rattle.dml_types.specs.Statements.{own_types_fit, own_dimensions_fit}
+
+abbrev pub total_weight : List Found → ℕ
+total_weight [] = 0
+total_weight (part ∷ parts) = part.expression.weight + total_weight parts
+
+abbrev pub typed_part : Part → TypedExpr
+typed_part part = record { kind = unwrap_or part.kind Na; dimensions = unwrap_or part.dimensions []; weight = part.weight }
+
+abbrev pub found_as : Part → Found
+found_as part = record { is_typed = is_some part.kind; is_measured = is_some part.dimensions; expression = typed_part part }
+
+abbrev pub found_of : Names → Expr → Found
+found_of names e = found_as (part_of names e)
+
+-- a statement with these names outside of expressions
+abbrev pub typed_parts : Names → List Use → List Found → Typed
+typed_parts names own parts =
+    record { objects = filter_map (λ (needed : Use). named_object names needed.name) own; expressions = map (λ (part : Found). part.expression) parts }
+
+module _ (names : Names) (known : Told) where
+  abbrev pub types_fit : Statement → List Found → Bool
+  types_fit s parts =
+      list_all (λ (part : Found). part.is_typed) parts && own_types_fit names known s (map (λ (part : Found). part.expression.kind) parts)
+
+  abbrev pub dimensions_fit : Statement → List Found → Bool
+  dimensions_fit s parts =
+      list_all (λ (part : Found). part.is_measured) parts
+      && own_dimensions_fit names known s (map (λ (part : Found). part.expression.dimensions) parts)
+
+  abbrev pub parts_refusal : Statement → List Found → Option TypeFault
+  parts_refusal s parts = first_refusal None (types_fit s parts) (dimensions_fit s parts) (capped (total_weight parts))
+
+  -- what is answered where no name is refused
+  abbrev pub parts_answer : Statement → List Use → List Found → Result Typed TypeFault
+  parts_answer s own parts = answer (parts_refusal s parts) (typed_parts names own parts)
