@@ -6,7 +6,7 @@ use Rattle.aw_dim.specs.DimensionState.{Entry, IsValueName}
 use Rattle.aw_dim.specs.inside.Index.{Has, HasBut, IsAt, AreBelow, SlotsFit, ArePlaced, IsNameIndex, IsIndexed}
 use Rattle.aw_dim.proofs.Editing.{insert_below, insert_at, remove_below, set_at, set_other, one_element, shifted, drawn, kept, left_in}
 use Rattle.aw_dim.proofs.NameIndexes.{index_same, one_slot}
-use Rattle.aw_dim.proofs.Placing.{fit_from_placed, fit-insert, placed-insert, has_but-insert, has-has_but-insert, has-insert, fit-remove, gone, placed-remove, has-remove, has_but-remove, has_from_remove}
+use Rattle.aw_dim.proofs.PlacesOfSlots.{fit_from_placed, fit-insert, placed-insert, has_but-insert, has-has_but-insert, has-insert, fit-remove, gone, placed-remove, has-remove, has_but-remove, has_from_remove}
 
 pub below_from_fit : (entries : List Entry) (room : ℕ) → SlotsFit entries room → AreBelow entries room
 below_from_fit entries room fit = record { below = fit.below }

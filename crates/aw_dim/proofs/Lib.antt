@@ -5,6 +5,6 @@ mod LookUps
 mod Made
 mod NameIndexes
 mod NameOrder
-mod Placing
+mod PlacesOfSlots
 mod Valid
 mod Views

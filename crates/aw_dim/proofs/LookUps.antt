@@ -6,7 +6,7 @@ use Rattle.std.proofs.lemmas.Bool.Decides.{Decides-eqb}
 use Rattle.aw_dim.specs.DimensionState.{Entry, DimensionState, slot_of, name_of, position_of}
 use Rattle.std.proofs.lemmas.Option.{slice_get_within}
 use Rattle.aw_dim.specs.inside.Index.{Has, SlotsFit, ArePlaced, IsNameIndex, IsIndexed, indexed_place, name_by, place_at, same_place, indexed_name, listed_slot}
-use Rattle.aw_dim.proofs.Placing.{fit_from_placed, name_of_placed}
+use Rattle.aw_dim.proofs.PlacesOfSlots.{fit_from_placed, name_of_placed}
 use Rattle.aw_dim.proofs.Editing.{one_element}
 use Rattle.aw_dim.proofs.NameIndexes.{one_slot, at_rank, splits_all, Splits, RanksBy}
 

@@ -13,7 +13,7 @@ use Rattle.aw_dim.specs.DimensionState.{Entry, DimensionState, IsDimension, IsVa
 use Rattle.aw_dim.specs.inside.Index.{Has, AreBelow, SlotsFit, ArePlaced, IsNameIndex, IsIndexed, indexed_name, precedes}
 use Rattle.aw_dim.specs.inside.Making.{AreListed, RiseBy}
 use Rattle.aw_dim.proofs.NameOrder.{precedes-trans, precedes-total}
-use Rattle.aw_dim.proofs.Placing.{name_of_placed}
+use Rattle.aw_dim.proofs.PlacesOfSlots.{name_of_placed}
 use Rattle.aw_dim.proofs.Valid.{few, slots_distinct}
 
 entry_at : (entries : List Entry) (k : ℕ) (entry d : Entry) → slice_get entries k ≡ Some entry → slice_index_or entries k d ≡ entry

@@ -7,7 +7,7 @@ use Rattle.aw_dim.specs.DimensionState.{Entry}
 use Rattle.aw_dim.specs.inside.Index.{Has, HasBut, ArePlaced, IsNameIndex, indexed_name, precedes}
 use Rattle.aw_dim.proofs.Editing.{insert_at, one_element, Shifted, Drawn, shifted, drawn, kept, left_in, shifted_order}
 use Rattle.aw_dim.proofs.NameOrder.{precedes-trans, precedes-irrefl, precedes-total, differ}
-use Rattle.aw_dim.proofs.Placing.{name_of_placed, one_name}
+use Rattle.aw_dim.proofs.PlacesOfSlots.{name_of_placed, one_name}
 
 -- an index of the same slots and names
 pub index_same : (has same : ℕ → List ℕ → Type 0) (slots : List ℕ) → ((slot : ℕ) (name : List ℕ) → has slot name → same slot name) → ((slot : ℕ) (name : List ℕ) → same slot name → has slot name) → IsNameIndex has slots → IsNameIndex same slots

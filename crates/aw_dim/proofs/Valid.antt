@@ -9,7 +9,7 @@ use Rattle.std.proofs.lemmas.Bool.Decides.{Decides-eqb}
 use Rattle.aw_dim.specs.DimensionState.{Entry, DimensionState, IsDimension, IsValueName}
 use Rattle.aw_dim.specs.inside.Index.{Has, SlotsFit, ArePlaced, IsNameIndex, IsIndexed}
 use Rattle.aw_dim.proofs.NameIndexes.{one_slot}
-use Rattle.aw_dim.proofs.Placing.{fit_from_placed}
+use Rattle.aw_dim.proofs.PlacesOfSlots.{fit_from_placed}
 
 with_slot : (entries : List Entry) (slot : ℕ) → list_any (eqb slot) (map (λ entry. entry.0) entries) ≡ true → (place : ℕ) × (name : List ℕ) × (slice_get entries place ≡ Some (slot, name))
 with_slot [] slot h = absurd cc

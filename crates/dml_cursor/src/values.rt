@@ -1,5 +1,5 @@
 ghost use Rattle.std.specs.Prelude.{◌≡◌};
-ghost use Rattle.dml_grammar.specs.Values as value;
+ghost use Rattle.dml_grammar.specs.TokenValues as value;
 
 use aw_cell::{Kind, Operator, Order, Rest, Spread, Text};
 use dml_tree::{Expr, Joint, Kin, Lexeme, Limiting, Symbol, Word};

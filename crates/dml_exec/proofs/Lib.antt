@@ -1,10 +1,10 @@
-mod Arriving
-mod Asking
-mod Gathering
-mod Going
-mod Keeping
-mod Kinding
+mod ReachedPlaces
+mod AllowedReads
+mod FreeDimensions
+mod CodeSteps
+mod SurveyResults
+mod OperatorKinds
 mod NeverStuck
-mod Placing
+mod AxisSlots
 mod MachineSteps
 mod Worked

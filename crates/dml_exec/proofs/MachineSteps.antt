@@ -26,11 +26,11 @@ use Rattle.dml_exec.specs.declared.operator.Unary.TheVariants.{Neg as Negates, A
 use Rattle.dml_exec.specs.declared.operator.Binary.{Binary}
 use Rattle.dml_exec.specs.declared.operator.Binary.TheVariants.{Add as Adds, Sub as Subtracts, Mul as Multiplies, Div as Divides, Min as TakesLeast, Max as TakesGreatest, NaFill as Fills, Compare as Compares, And as Joins, Or as Offers}
 use Rattle.dml_exec.specs.Free.{is_among, free_in_axes, free_in_op}
-use Rattle.dml_exec.specs.Meaning.{Reading, Outcome, slot_at, slot_of_axis, slots_of, coordinate, answered, pushed, on_one, on_two, name_of, named, branched, on_branch, turn}
+use Rattle.dml_exec.specs.Meaning.{CodeInputs, Outcome, slot_at, slot_of_axis, slots_of, coordinate, answered, pushed, on_one, on_two, name_of, named, branched, on_branch, turn}
 use Rattle.dml_exec.specs.Operators.{when, of_one, of_two, kind_of_one, kind_of_two}
 use Rattle.dml_exec.specs.Verified.{Rules, onward, Onward, kind_pushed, kinds_on_one, kinds_on_two, kinds_named, name_of_kind, kind_named, kind_read, are_axes, is_axis, is_dimension, is_dimension_kind, is_ahead, forked, GoesTo}
 use Rattle.dml_exec.specs.inside.MachineSteps.{AreOf}
-use Rattle.dml_exec.proofs.Kinding.{Of, GivesOf, Gives, when-some, one-gives, two-gives}
+use Rattle.dml_exec.proofs.OperatorKinds.{Of, GivesOf, Gives, when-some, one-gives, two-gives}
 
 same_Some : {A : Type 0} (a b : A) → Some a ≡ Some b → a ≡ b
 same_Some a b e = cc
@@ -152,7 +152,7 @@ axes-found kinds fixes place fixed (axis ∷ axes) t h f =
 -- ---- an op
 
 -- what an op names, and reads, is there
-pub record OpFits (r : Rules) (reads : Reading) (op : Op) : Type 0 where
+pub record OpFits (r : Rules) (reads : CodeInputs) (op : Op) : Type 0 where
   pub places : (dimension : ℕ) → IsTrue (is_among (free_in_op op) dimension) → IsSome (slot_at reads.place dimension)
   pub fixed : r.fixes ≤ length reads.fixed
   pub locals : (number : ℕ) (kind : Kind) → op ≡ Local number → slice_get r.kinds.locals number ≡ Some kind → IsSomeAnd (slice_get reads.locals number) (Of kind)
@@ -171,7 +171,7 @@ kind-read kinds fixes axes (Some Dimension) kind e = absurd (none-some kind e)
 kind-read kinds fixes axes (Some Other) kind e = absurd (none-some kind e)
 kind-read kinds fixes axes None kind e = absurd (none-some kind e)
 
-loaded : (r : Rules) (reads : Reading) (object : ℕ) (axes : List Axis) (kind : Kind) → OpFits r reads (Load object axes) → kind_read r.kinds r.fixes axes (slice_get r.kinds.objects object) ≡ Some kind → IsSomeAnd (option_map (reads.cell object) (coordinate reads.place reads.fixed axes)) (Of kind)
+loaded : (r : Rules) (reads : CodeInputs) (object : ℕ) (axes : List Axis) (kind : Kind) → OpFits r reads (Load object axes) → kind_read r.kinds r.fixes axes (slice_get r.kinds.objects object) ≡ Some kind → IsSomeAnd (option_map (reads.cell object) (coordinate reads.place reads.fixed axes)) (Of kind)
 loaded r reads object axes kind fits e =
     let k = kind-read r.kinds r.fixes axes (slice_get r.kinds.objects object) kind e in
     let outer = and_parts (eqb (length axes) (length k.0) && leb (length axes) 6) (list_all (is_axis r.kinds r.fixes) axes) k.2 in
@@ -181,18 +181,18 @@ loaded r reads object axes kind fits e =
     let is : coordinate reads.place reads.fixed axes ≡ Some found.0 = ap (λ (t : Truth). option_and_then (λ (slots : Option (List ℕ)). slots) (when t (slots_of reads.place reads.fixed axes))) inner.1 ∙ found.1 in
     subst (λ (o : Option (List ℕ)). IsSomeAnd (option_map (reads.cell object) o) (Of kind)) (sym is) (fits.cells object kind k.0 found.0 k.1 len)
 
-slot-there : (reads : Reading) (dimension : ℕ) (slot : Option ℕ) → IsSome slot → Of TextKind (reads.name dimension (unwrap_or slot 0)) → IsSomeAnd (option_map (reads.name dimension) slot) (Of TextKind)
+slot-there : (reads : CodeInputs) (dimension : ℕ) (slot : Option ℕ) → IsSome slot → Of TextKind (reads.name dimension (unwrap_or slot 0)) → IsSomeAnd (option_map (reads.name dimension) slot) (Of TextKind)
 slot-there reads dimension None h p = absurd (false≢true h)
 slot-there reads dimension (Some slot) h p = p
 
-placed : (r : Rules) (reads : Reading) (dimension : ℕ) (kind : Kind) → OpFits r reads (Name dimension) → kind_named r.kinds dimension ≡ Some kind → IsSomeAnd (option_map (reads.name dimension) (slot_at reads.place dimension)) (Of kind)
+placed : (r : Rules) (reads : CodeInputs) (dimension : ℕ) (kind : Kind) → OpFits r reads (Name dimension) → kind_named r.kinds dimension ≡ Some kind → IsSomeAnd (option_map (reads.name dimension) (slot_at reads.place dimension)) (Of kind)
 placed r reads dimension kind fits e =
     let w = when-some (is_dimension r.kinds dimension) TextKind kind e in
     let there : IsSome (slot_at reads.place dimension) = fits.places dimension (or_left (eqb dimension dimension) false (eq-eqb dimension dimension refl)) in
     subst (λ (x : Kind). IsSomeAnd (option_map (reads.name dimension) (slot_at reads.place dimension)) (Of x)) w.1
     (slot-there reads dimension (slot_at reads.place dimension) there (fits.names dimension (unwrap_or (slot_at reads.place dimension) 0) (dimension-is (slice_get r.kinds.objects dimension) w.0)))
 
-pub turned : (r : Rules) (reads : Reading) (at : ℕ) (op : Op) (stack : List Kind) (cells : List Cell) (way : Way) (after : List Kind) → OpFits r reads op → onward r at op stack ≡ Some (way, after) → AreOf stack cells → Turned at way after (turn reads at op cells)
+pub turned : (r : Rules) (reads : CodeInputs) (at : ℕ) (op : Op) (stack : List Kind) (cells : List Cell) (way : Way) (after : List Kind) → OpFits r reads op → onward r at op stack ≡ Some (way, after) → AreOf stack cells → Turned at way after (turn reads at op cells)
 turned r reads at (Push cell kind) stack cells way after fits e are =
     push-turned at stack (when (is_of_kind kind cell) kind) way after (pushed (at + 1) cells (Some cell)) e
     (λ k is. let w = when-some (is_of_kind kind cell) kind k is in pushed-turned at stack cells k (Some cell) (subst (λ (x : Kind). Of x cell) w.1 w.0) are)

@@ -8,14 +8,14 @@ use Rattle.aw_cell.specs.declared.number.Arith.{Arith}
 use Rattle.dml_exec.specs.declared.code.Code.{Code}
 use Rattle.dml_exec.specs.declared.kinds.Kinds.{Kinds}
 use Rattle.dml_exec.specs.declared.op.Op.{Op}
-use Rattle.dml_exec.specs.Meaning.{Reading, Standing, Outcome, turn, going, then_on, ended, meaning}
+use Rattle.dml_exec.specs.Meaning.{CodeInputs, Standing, Outcome, turn, going, then_on, ended, meaning}
 use Rattle.dml_exec.specs.CodeRuns.{Accepts, Fits, rules_for, IsAnswered, AcceptedCodeIsNeverStuck}
 use Rattle.dml_exec.specs.Verified.{Reaches, GoesTo}
 use Rattle.dml_exec.specs.inside.MachineSteps.{AreOf, Stands}
-use Rattle.dml_exec.proofs.Going.{Steps, steps, there, taken, passed, ahead, stands-ended}
+use Rattle.dml_exec.proofs.CodeSteps.{Steps, steps, there, taken, passed, ahead, stands-ended}
 use Rattle.dml_exec.proofs.MachineSteps.{Turned}
 
-module _ (kinds : Kinds) (code : Code) (r : Reading) (accepted : Accepts kinds code) (fits : Fits kinds code r) where
+module _ (kinds : Kinds) (code : Code) (r : CodeInputs) (accepted : Accepts kinds code) (fits : Fits kinds code r) where
   abbrev Anyway : ℕ → List ℕ → Type 0
   Anyway object slots = Unit {0}
 

@@ -12,11 +12,11 @@ use Rattle.dml_exec.specs.declared.op.Axis.TheVariants.{Free, Fixed}
 use Rattle.dml_exec.specs.declared.op.Op.{Op}
 use Rattle.dml_exec.specs.declared.op.Op.TheVariants.{Push, Local, Load, Name, NameOf, Add, Sub, Div, NaFill, Branch, Jump}
 use Rattle.dml_exec.specs.Free.{free_dimensions}
-use Rattle.dml_exec.specs.Meaning.{Reading, meaning}
+use Rattle.dml_exec.specs.Meaning.{CodeInputs, meaning}
 use Rattle.dml_exec.specs.Verified.{Rules, onward, IsFirstFault}
 
 -- an object 1 whose cell at 7, 3 is 40; the place has 7 in dimension 0, and the one fix is 3
-abbrev reads : Reading
+abbrev reads : CodeInputs
 reads = record {
   cell = λ object slots. elim slots as (λ _. Cell) [ [] ↦ Na | slot ∷ rest ↦ Int (pos (slot * 10 - object * 30)) ];
   name = λ dimension slot. Chars (codes "Jan");

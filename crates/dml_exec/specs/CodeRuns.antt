@@ -16,7 +16,7 @@ use Rattle.dml_exec.specs.declared.kinds.ObjectKind.TheVariants.{Dimension, Cell
 use Rattle.dml_exec.specs.declared.op.Op.{Op}
 use Rattle.dml_exec.specs.declared.op.Op.TheVariants.{Local}
 use Rattle.dml_exec.specs.Free.{free_dimensions, is_among}
-use Rattle.dml_exec.specs.Meaning.{Reading, slot_at, meaning}
+use Rattle.dml_exec.specs.Meaning.{CodeInputs, slot_at, meaning}
 use Rattle.dml_exec.specs.Verified.{Rules, rules_of, IsSound, IsFirstFault, Reaches}
 
 abbrev pub rules_for : Kinds → Code → Rules
@@ -29,7 +29,7 @@ pub record Accepts (kinds : Kinds) (code : Code) : Type 0 where
   pub deepest : (at : ℕ) (stack : List Kind) → Reaches (rules_for kinds code) at stack → length stack ≤ code.deepest
 
 -- what code reads is there, and of the kinds over which it was accepted, or NA
-pub record Fits (kinds : Kinds) (code : Code) (r : Reading) : Type 0 where
+pub record Fits (kinds : Kinds) (code : Code) (r : CodeInputs) : Type 0 where
   pub places : (dimension : ℕ) → IsTrue (is_among code.free dimension) → IsSome (slot_at r.place dimension)
   pub fixed : length code.fixes ≤ length r.fixed
   pub locals : (number : ℕ) (kind : Kind) → Contains code.ops (Local number) → slice_get kinds.locals number ≡ Some kind → IsSomeAnd (slice_get r.locals number) (λ cell. IsTrue (is_of_kind kind cell))
@@ -42,7 +42,7 @@ pub record MayAsk (kinds : Kinds) (may_read : ℕ → List ℕ → Type 0) (may_
   pub names : (dimension slot : ℕ) → slice_get kinds.objects dimension ≡ Some Dimension → may_name dimension slot
 
 -- code that was accepted over some kinds, and what fits these
-pub record CanRun (code : Code) (r : Reading) (may_read : ℕ → List ℕ → Type 0) (may_name : ℕ → ℕ → Type 0) : Type 0 where
+pub record CanRun (code : Code) (r : CodeInputs) (may_read : ℕ → List ℕ → Type 0) (may_name : ℕ → ℕ → Type 0) : Type 0 where
   pub kinds : Kinds
   pub accepted : Accepts kinds code
   pub fits : Fits kinds code r
@@ -61,7 +61,7 @@ pub record EndsWith (r : Rules) (cell : Cell) : Type 0 where
   pub reached : Reaches r (length r.ops) (kind ∷ [])
   pub of_kind : IsTrue (is_of_kind kind cell)
 
-pub record IsAnswered (kinds : Kinds) (code : Code) (r : Reading) : Type 0 where
+pub record IsAnswered (kinds : Kinds) (code : Code) (r : CodeInputs) : Type 0 where
   pub answer : Result Cell Arith
   pub means : meaning r code.ops ≡ Some answer
   pub ends : IfOk answer (EndsWith (rules_for kinds code))
@@ -69,4 +69,4 @@ pub record IsAnswered (kinds : Kinds) (code : Code) (r : Reading) : Type 0 where
 -- accepted code is never stuck: on all that fits it gives a cell or a refusal, and the cell is of the kind that the end
 -- has, or NA
 abbrev pub AcceptedCodeIsNeverStuck : Type 0
-AcceptedCodeIsNeverStuck = (kinds : Kinds) (code : Code) (r : Reading) → Accepts kinds code → Fits kinds code r → IsAnswered kinds code r
+AcceptedCodeIsNeverStuck = (kinds : Kinds) (code : Code) (r : CodeInputs) → Accepts kinds code → Fits kinds code r → IsAnswered kinds code r

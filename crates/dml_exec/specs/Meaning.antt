@@ -17,15 +17,15 @@ use Rattle.dml_exec.specs.Operators.{of_one, of_two, when}
 
 -- what code reads: the cells of objects and the names of values, a slot for each free dimension, one for each fix, and
 -- the locals
-pub record Reading : Type 0 where
+pub record CodeInputs : Type 0 where
   pub cell : ℕ → List ℕ → Cell
   pub name : ℕ → ℕ → Cell
   pub place : List (ℕ × ℕ)
   pub fixed : List ℕ
   pub locals : List Cell
 
-abbrev pub reading : (ℕ → List ℕ → Cell) → (ℕ → ℕ → Cell) → List (ℕ × ℕ) → List ℕ → List Cell → Reading
-reading cell name place fixed locals = record { cell = cell; name = name; place = place; fixed = fixed; locals = locals }
+abbrev pub code_inputs : (ℕ → List ℕ → Cell) → (ℕ → ℕ → Cell) → List (ℕ × ℕ) → List ℕ → List Cell → CodeInputs
+code_inputs cell name place fixed locals = record { cell = cell; name = name; place = place; fixed = fixed; locals = locals }
 
 -- the slot that a place has for a dimension
 abbrev pub slot_at : List (ℕ × ℕ) → ℕ → Option ℕ
@@ -92,7 +92,7 @@ on_branch at_yes at_no at_na [] = None
 on_branch at_yes at_no at_na (cell ∷ cells) = option_map (λ next. Ok (next, cells)) (branched at_yes at_no at_na cell)
 
 -- what the op at a place makes of the cells
-abbrev pub turn : Reading → ℕ → Op → List Cell → Outcome
+abbrev pub turn : CodeInputs → ℕ → Op → List Cell → Outcome
 turn r at (Push cell kind) cells = pushed (at + 1) cells (Some cell)
 turn r at (Local number) cells = pushed (at + 1) cells (slice_get r.locals number)
 turn r at (Load object axes) cells = pushed (at + 1) cells (option_map (r.cell object) (coordinate r.place r.fixed axes))
@@ -121,7 +121,7 @@ then_on on (Some (Ok standing)) = on standing
 then_on on (Some (Err why)) = Some (Err why)
 
 -- the ops from a place on, one after the other: the next one is taken, and those before it are passed over
-abbrev pub going : Reading → ℕ → List Op → Standing → Outcome
+abbrev pub going : CodeInputs → ℕ → List Op → Standing → Outcome
 going r at [] standing = Some (Ok standing)
 going r at (op ∷ ops) standing =
     if at == standing.0 then then_on (going r (at + 1) ops) (turn r at op standing.1) else going r (at + 1) ops standing
@@ -138,5 +138,5 @@ ended count (Some (Ok standing)) = if standing.0 == count then sole standing.1 e
 ended count (Some (Err why)) = Some (Err why)
 
 -- the cell that code gives, or the refusal
-abbrev pub meaning : Reading → List Op → Option (Result Cell Arith)
+abbrev pub meaning : CodeInputs → List Op → Option (Result Cell Arith)
 meaning r ops = ended (length ops) (going r 0 ops (0, []))

@@ -25,7 +25,7 @@ impl Code {
     /// Accepts ops over what they may name, or says which is the first bad one; where none is bad, but
     /// the end hasn't just one cell, this is the number of ops (docs/ARCHITECTURE.md, "Code of
     /// expressions").
-    #[tactic(auto, using(crate::proofs::Keeping::fault_within, crate::proofs::Keeping::accepted_by))]
+    #[tactic(auto, using(crate::proofs::SurveyResults::fault_within, crate::proofs::SurveyResults::accepted_by))]
     pub fn verify(
         alloc: Global,
         ops: List<Op>,

@@ -1,6 +1,6 @@
 ghost use Rattle.std.specs.Prelude.{◌≡◌, ◌<◌, ◌≤◌, ◌+◌, ◌^◌, ℕ, List, length, Some, IsSome, Option};
 ghost use Rattle.aw_cell.specs.declared.cell.Cell.{Cell};
-ghost use Rattle.dml_exec.specs.Meaning.{reading, turn, meaning, pushed, on_one, on_two, named, name_of, on_branch, branched};
+ghost use Rattle.dml_exec.specs.Meaning.{code_inputs, turn, meaning, pushed, on_one, on_two, named, name_of, on_branch, branched};
 ghost use Rattle.dml_exec.specs.CodeRuns.{CanRun};
 ghost use Rattle.dml_exec.specs.inside.MachineSteps.{CanTurn, MayTurn, stood};
 
@@ -122,9 +122,9 @@ fn step<C: Cells>(
     stack: &mut Stack,
 ) -> Result<usize, Arith>
     requires small { at + 1 < 2 ^ 64 }
-    requires turns { CanTurn stack.old.room (turn (reading (C.cell_at cells.now) (C.name_at cells.now) place.now fixed.now locals.now) at op.now stack.old.cells) }
+    requires turns { CanTurn stack.old.room (turn (code_inputs (C.cell_at cells.now) (C.name_at cells.now) place.now fixed.now locals.now) at op.now stack.old.cells) }
     requires asks { MayTurn (C.may_read cells.now) (C.may_name cells.now) op.now }
-    ensures turned { turn (reading (C.cell_at cells.now) (C.name_at cells.now) place.now fixed.now locals.now) at op.now stack.old.cells ≡ Some (stood stack.new.cells result) }
+    ensures turned { turn (code_inputs (C.cell_at cells.now) (C.name_at cells.now) place.now fixed.now locals.now) at op.now stack.old.cells ≡ Some (stood stack.new.cells result) }
     ensures room { stack.new.room ≡ stack.old.room }
 {
     let next = at + 1;
@@ -171,8 +171,8 @@ pub fn run<C: Cells>(
     stack: &mut Stack,
 ) -> Result<Cell, Arith>
     requires room { code.now.deepest ≤ stack.old.room }
-    requires fits { CanRun code.now (reading (C.cell_at cells.now) (C.name_at cells.now) at.now fixed.now locals.now) (C.may_read cells.now) (C.may_name cells.now) }
-    ensures value { meaning (reading (C.cell_at cells.now) (C.name_at cells.now) at.now fixed.now locals.now) code.now.ops ≡ Some result }
+    requires fits { CanRun code.now (code_inputs (C.cell_at cells.now) (C.name_at cells.now) at.now fixed.now locals.now) (C.may_read cells.now) (C.may_name cells.now) }
+    ensures value { meaning (code_inputs (C.cell_at cells.now) (C.name_at cells.now) at.now fixed.now locals.now) code.now.ops ≡ Some result }
     ensures room { stack.new.room ≡ stack.old.room }
 {
     stack.clear();

@@ -23,7 +23,7 @@ pub struct Survey {
 }
 
 /// No op is reached yet.
-#[tactic(auto, using(crate::proofs::Keeping::unreached_none, crate::proofs::Keeping::unreached_more))]
+#[tactic(auto, using(crate::proofs::SurveyResults::unreached_none, crate::proofs::SurveyResults::unreached_more))]
 fn unreached(alloc: Global, count: usize) -> Result<Vec<Arrival>, AllocError>
     ensures { IfOk result (λ arrivals. AreUnreached arrivals.items count) }
 {

@@ -2,3 +2,4 @@
 pub mod Answering
 pub mod Answers
 pub mod Steps
+pub mod Trees

@@ -39,7 +39,7 @@ use Rattle.dml_tree.specs.declared.definition.Definition.{Definition}
 use Rattle.dml_grammar.specs.declared.placed.Placed.{Placed}
 use Rattle.dml_forms.specs.Forms.{Form, ended, token, part, last, either, but}
 use Rattle.dml_grammar.specs.Sorts.{number, words_of, symbols_of, sorts_of}
-use Rattle.dml_grammar.specs.Values.{text_of, count_value, numeral_of, joint_of, kind_of, limiting_of, kin_of, operator_of, rest_of}
+use Rattle.dml_grammar.specs.TokenValues.{text_of, count_value, numeral_of, joint_of, kind_of, limiting_of, kin_of, operator_of, rest_of}
 
 abbrev pub Names : Type 0
 Names = List (List ℕ)

@@ -1,8 +1,9 @@
 pub mod Sorts
-pub mod Values
+pub mod TokenValues
 pub mod Grammar
 pub mod Limits
-pub mod Placing
+pub mod PlacedTokens
 pub mod Sentences
 pub mod Laws
+pub mod Trees
 pub mod inside

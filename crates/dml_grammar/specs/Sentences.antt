@@ -9,7 +9,7 @@ use Rattle.dml_grammar.specs.declared.fault.ParseFault.TheVariants as fault
 use Rattle.dml_grammar.specs.Sorts.{sort, a_word, words_of}
 use Rattle.dml_grammar.specs.Grammar.{Part, Value, rule}
 use Rattle.dml_grammar.specs.Limits.{keeps_limits}
-use Rattle.dml_grammar.specs.Placing.{within}
+use Rattle.dml_grammar.specs.PlacedTokens.{within}
 
 -- The tokens are this part, with this tree, and keep the limits.
 unfoldable pub Is : (n : Part) → List Placed → Value n → Type 0

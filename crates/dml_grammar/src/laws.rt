@@ -1,6 +1,7 @@
 //! What holds of the grammar.
 
 ghost use Rattle.dml_grammar.specs.Laws.{OneRefusal, OneTree};
+ghost use Rattle.dml_grammar.specs.Trees.{EachIsAnswered};
 
 /// The tokens of a line or a block have one tree at most. See docs/LANGUAGE.md, "How a line is read".
 pub fn one_tree()
@@ -11,4 +12,10 @@ pub fn one_tree()
 /// alone. See docs/LANGUAGE.md, "How a line is read".
 pub fn one_refusal()
     ensures { OneRefusal }
+{}
+
+/// Each list of tokens is a part of the grammar, or is refused as one, under the limits: so `tree_of`
+/// gives its tree, or the place of the refusal. See docs/LANGUAGE.md, "How a line is read".
+pub fn each_list_is_answered()
+    ensures { EachIsAnswered }
 {}

@@ -12,7 +12,7 @@ mod sorts;
 mod telling;
 
 pub use fault::{Fault, ParseFault};
-pub use laws::{one_refusal, one_tree};
+pub use laws::{each_list_is_answered, one_refusal, one_tree};
 pub use limits::{Counts, kept};
 pub use placed::Placed;
 pub use placing::{place_block, place_line};

@@ -1,5 +1,5 @@
 ghost use Rattle.std.specs.Prelude.{◌≡◌, ◌++◌, [], cond, OnOk, drop};
-ghost use Rattle.dml_grammar.specs.Placing as place;
+ghost use Rattle.dml_grammar.specs.PlacedTokens as place;
 
 use crate::placed::Placed;
 use aw_lists::List;

@@ -1,7 +1,7 @@
 ghost use Rattle.std.specs.Prelude.{◌≡◌, ◌+◌, slice_get};
 ghost use Rattle.dml_forms.specs.Forms.{among};
 ghost use Rattle.dml_grammar.specs.Sorts.{sort};
-ghost use Rattle.dml_grammar.specs.Placing.{within};
+ghost use Rattle.dml_grammar.specs.PlacedTokens.{within};
 ghost use Rattle.dml_grammar.specs.Sentences as sentence;
 
 use crate::fault::ParseFault;

@@ -5,7 +5,8 @@ use Rattle.dml_tree.specs.Weight.{weight}
 use Rattle.dml_tree.specs.declared.expr.Expr.{Expr}
 use Rattle.dml_kinds.specs.declared.fault.TypeFault.{TypeFault}
 use Rattle.dml_kinds.specs.declared.fault.TypeFault.TheVariants.{Mismatch, Dimensions, TooMany, NoMemory}
-use Rattle.dml_kinds.specs.declared.types.ValueType.TheVariants.{Na}
+use Rattle.dml_kinds.specs.declared.types.ValueType.{ValueType}
+use Rattle.dml_kinds.specs.declared.types.ValueType.TheVariants.{Na, Of}
 use Rattle.dml_kinds.specs.declared.checking.TypedExpr.{TypedExpr}
 use Rattle.dml_kinds.specs.Meanings.{Names, weight_named}
 use Rattle.dml_kinds.specs.Names.{targets, uses, groups, names_refusal}
@@ -31,6 +32,12 @@ answer None value = Ok value
 abbrev pub IsAnswer : {X : Type 0} → Result X TypeFault → Result X TypeFault → Type 0
 IsAnswer result given = (result ≡ Err NoMemory) ⊎ (result ≡ given)
 
+-- a formula isn't of the type of NA alone
+abbrev pub formula_kind : Option ValueType → Option ValueType
+formula_kind None = None
+formula_kind (Some Na) = None
+formula_kind (Some (Of kind)) = Some (Of kind)
+
 module _ (names : Names) where
   abbrev pub expression_weight : Expr → ℕ
   expression_weight e = weight (weight_named names) e
@@ -47,3 +54,17 @@ module _ (names : Names) where
 
   abbrev pub expression_answer : Expr → Result TypedExpr TypeFault
   expression_answer e = answer (refusal e) (typed e)
+
+  -- ---- formulas
+
+  abbrev pub formula_refusal : Expr → Option TypeFault
+  formula_refusal e =
+      first_refusal (names_refusal names (uses (targets e)) (groups (targets e))) (is_some (formula_kind (type_of names e))) (dimensions_fit names e)
+      (expression_weight e)
+
+  abbrev pub formula_typed : Expr → TypedExpr
+  formula_typed e =
+      record { kind = unwrap_or (formula_kind (type_of names e)) Na; dimensions = free_dimensions names e; weight = expression_weight e }
+
+  abbrev pub formula_answer : Expr → Result TypedExpr TypeFault
+  formula_answer e = answer (formula_refusal e) (formula_typed e)

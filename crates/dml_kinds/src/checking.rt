@@ -1,8 +1,8 @@
-ghost use Rattle.std.specs.Prelude.{◌≡◌, IfOk, is_some, None};
+ghost use Rattle.std.specs.Prelude.{◌≡◌, IfOk, is_some, None, []};
 ghost use Rattle.dml_kinds.specs.Meanings.{names_in};
 ghost use Rattle.dml_kinds.specs.Names as names;
 ghost use Rattle.dml_kinds.specs.Checking as spec;
-ghost use Rattle.dml_kinds.specs.inside.Parts.{part_answer, part_of};
+ghost use Rattle.dml_kinds.specs.inside.Parts.{part_answer, part_of, formula_part};
 
 use crate::fault::TypeFault;
 use crate::gathering::{push_targets, push_value_uses};
@@ -10,7 +10,7 @@ use crate::parts::{Part, part_of};
 use crate::scope::{Locals, Scope};
 use crate::signature::Signatures;
 use crate::types::ValueType;
-use aw_lists::Coord;
+use aw_lists::{Coord, List};
 use aw_schema::Catalogue;
 use dml_tree::Expr;
 use std::alloc::{AllocError, Global};
@@ -30,7 +30,7 @@ pub struct TypedExpr {
 /// `known` tells of them, and the program has these locals, and what it is then. An object with a
 /// text of which nothing is told is unknown. Else the first refusal in the order of TypeFault, each
 /// for the first place from the left (docs/LANGUAGE.md, "Order of refusals").
-#[tactic(auto, using(crate::proofs::Settling::settled_expression, crate::proofs::Settling::refused_expression))]
+#[tactic(auto, using(crate::proofs::ExpressionAnswers::settled_expression, crate::proofs::ExpressionAnswers::refused_expression))]
 pub fn check_expr(
     alloc: Global,
     expr: &Expr,
@@ -48,6 +48,54 @@ pub fn check_expr(
     match refused_names(alloc, &scope, expr) {
         Ok(Some(fault)) => Err(fault),
         Ok(None) => found(alloc, &scope, expr),
+        Err(_) => Err(TypeFault::NoMemory),
+    }
+}
+
+/// The type of a formula's expression, which isn't that of `NA` alone.
+fn formula_kind(kind: Option<ValueType>) -> Option<ValueType>
+    ensures { result ≡ spec.formula_kind kind }
+{
+    match kind {
+        Some(ValueType::Of(kind)) => Some(ValueType::Of(kind)),
+        Some(ValueType::Na) | None => None,
+    }
+}
+
+/// What is answered of a formula's expression where no name is refused.
+fn found_formula(alloc: Global, scope: &Scope, expr: &Expr) -> Result<TypedExpr, TypeFault>
+    ensures { spec.IsAnswer result (part_answer (formula_part (names_in scope.now.catalogue.now scope.now.known.now scope.now.locals.now) expr.now)) }
+{
+    match part_of(alloc, scope, expr) {
+        Ok(part) => settled(&Part {
+            kind: formula_kind(part.kind),
+            dimensions: part.dimensions,
+            weight: part.weight,
+        }),
+        Err(_) => Err(TypeFault::NoMemory),
+    }
+}
+
+/// As `check_expr`, for the expression of a formula, which has no locals: the type of `NA` alone doesn't
+/// fit (docs/LANGUAGE.md, "Definitions").
+#[tactic(auto, using(crate::proofs::Settling::settled_formula, crate::proofs::Settling::refused_formula))]
+pub fn check_formula(
+    alloc: Global,
+    expr: &Expr,
+    catalogue: &Catalogue,
+    known: &Signatures,
+) -> Result<TypedExpr, TypeFault>
+    ensures { spec.IsAnswer result (spec.formula_answer (names_in catalogue.now known.now []) expr.now) }
+{
+    let locals = List::new(alloc);
+    let scope = Scope {
+        catalogue,
+        known,
+        locals: &locals,
+    };
+    match refused_names(alloc, &scope, expr) {
+        Ok(Some(fault)) => Err(fault),
+        Ok(None) => found_formula(alloc, &scope, expr),
         Err(_) => Err(TypeFault::NoMemory),
     }
 }

@@ -14,7 +14,7 @@ mod types;
 mod typing;
 mod weighing;
 
-pub use checking::{TypedExpr, check_expr};
+pub use checking::{TypedExpr, check_expr, check_formula};
 pub use dimensions::is_among;
 pub use fault::TypeFault;
 pub use gathering::{fixed_names, push_targets, push_uses, push_value_uses};

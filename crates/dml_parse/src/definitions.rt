@@ -1,6 +1,6 @@
 ghost use Rattle.std.specs.Prelude.{◌≡◌, ◌⊎◌, ℕ, IfOk, Ok, Err, length};
 ghost use Rattle.dml_grammar.specs.Grammar as g;
-ghost use Rattle.dml_grammar.specs.Placing.{block};
+ghost use Rattle.dml_grammar.specs.PlacedTokens.{block};
 ghost use Rattle.dml_grammar.specs.Sentences.{Is, IsRefusedAt, definition_refusal};
 ghost use Rattle.dml_grammar.specs.inside.Answering.{IsAnswered, IsTold};
 

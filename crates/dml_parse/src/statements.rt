@@ -1,6 +1,6 @@
 ghost use Rattle.std.specs.Prelude.{◌≡◌, ◌⊎◌, ℕ, IfOk, Ok, Err};
 ghost use Rattle.dml_grammar.specs.Grammar as g;
-ghost use Rattle.dml_grammar.specs.Placing.{placed};
+ghost use Rattle.dml_grammar.specs.PlacedTokens.{placed};
 ghost use Rattle.dml_grammar.specs.Sentences.{Is, IsRefusedAt, statement_refusal};
 ghost use Rattle.dml_grammar.specs.inside.Answering.{IsAnswered, IsTold};
 

@@ -33,7 +33,7 @@ pub struct Typed {
 /// `known` tells of them, and the program has these locals, and what it is then. An object with a
 /// text of which nothing is told is unknown. Else the first refusal in the order of TypeFault, each
 /// for the first place from the left (docs/LANGUAGE.md, "Order of refusals").
-#[tactic(auto, using(crate::proofs::Settling::settled_statement, crate::proofs::Settling::refused_statement))]
+#[tactic(auto, using(crate::proofs::StatementAnswers::settled_statement, crate::proofs::StatementAnswers::refused_statement))]
 pub fn check(
     alloc: Global,
     statement: &Statement,

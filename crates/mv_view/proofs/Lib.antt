@@ -1,7 +1,7 @@
 pub mod Setting
 pub mod Sameness
 pub mod Steps
-pub mod Placing
+pub mod WrittenPlaces
 pub mod Written
 pub mod Renewing
 pub mod Owning

@@ -1,2 +1,2 @@
 -- What private functions alone need.
-pub mod Asking
+pub mod AskedEntries

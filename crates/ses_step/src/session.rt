@@ -10,7 +10,7 @@ ghost use Rattle.ses_step.specs.declared.answer.Answer.TheVariants.{Refused};
 ghost use Rattle.ses_step.specs.declared.line.Command.TheVariants.{Attach, Acquire, Assign, Update, Commit, Show};
 ghost use Rattle.ses_step.specs.declared.session.Begun.TheVariants.{Said};
 ghost use Rattle.ses_step.specs.Sessions as spec;
-ghost use Rattle.ses_step.specs.inside.Asking.{AsksToOwn};
+ghost use Rattle.ses_step.specs.inside.AskedEntries.{AsksToOwn};
 
 use crate::answer::Answer;
 use crate::line::Command;

@@ -8,7 +8,7 @@ use Rattle.dml_exec.specs.declared.code.Code.{Code}
 use Rattle.dml_exec.specs.declared.op.Axis.{Axis}
 use Rattle.dml_exec.specs.declared.op.Op.{Op}
 use Rattle.dml_exec.specs.declared.op.Op.TheVariants.{Push, Local, Load, Name, NameOf, Add, Sub, Mul, Div, Neg, Abs, Min, Max, NaFill, Convert, Compare, And, Or, Not, Branch, Jump}
-use Rattle.dml_exec.specs.Meaning.{Reading, Standing, Outcome, going}
+use Rattle.dml_exec.specs.Meaning.{CodeInputs, Standing, Outcome, going}
 use Rattle.dml_exec.specs.CodeRuns.{CanRun, rules_for}
 use Rattle.dml_exec.specs.Verified.{Reaches}
 
@@ -40,7 +40,7 @@ AreOf (kind ∷ kinds) (cell ∷ cells) = IsTrue (is_of_kind kind cell) × AreOf
 AreOf _ _ = ⊥
 
 -- a run stands where its place is reached with the kinds of its cells, and it has the meaning still before it
-pub record Stands (code : Code) (r : Reading) (may_read : ℕ → List ℕ → Type 0) (may_name : ℕ → ℕ → Type 0) (next : ℕ) (cells : List Cell) : Type 0 where
+pub record Stands (code : Code) (r : CodeInputs) (may_read : ℕ → List ℕ → Type 0) (may_name : ℕ → ℕ → Type 0) (next : ℕ) (cells : List Cell) : Type 0 where
   pub can : CanRun code r may_read may_name
   pub within : next ≤ length code.ops
   pub stack : List Kind

@@ -11,7 +11,7 @@ use Rattle.dml_kinds.specs.Meanings.{Names}
 use Rattle.dml_kinds.specs.Names.{targets}
 use Rattle.dml_kinds.specs.Types.{type_of}
 use Rattle.dml_kinds.specs.FreeDimensions.{first_appearances, target_dimensions, fixes_fit}
-use Rattle.dml_kinds.specs.Checking.{expression_weight, first_refusal, answer}
+use Rattle.dml_kinds.specs.Checking.{expression_weight, first_refusal, answer, formula_kind}
 use Rattle.dml_kinds.specs.inside.Capped.{capped}
 
 abbrev pub up_to_six : List ℕ → Option (List ℕ)
@@ -26,6 +26,11 @@ module _ (names : Names) where
   abbrev pub part_of : Expr → Part
   part_of e =
       record { kind = type_of names e; dimensions = dimensions_of_targets (targets e); weight = capped (expression_weight names e) }
+
+  -- of a formula
+  abbrev pub formula_part : Expr → Part
+  formula_part e =
+      record { kind = formula_kind (type_of names e); dimensions = dimensions_of_targets (targets e); weight = capped (expression_weight names e) }
 
 -- what is answered where no name is refused
 abbrev pub part_answer : Part → Result TypedExpr TypeFault

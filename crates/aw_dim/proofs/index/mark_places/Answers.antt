@@ -1,7 +1,7 @@
 use Rattle.std.proofs.Common.{ℕ, List, ◌≡◌, ◌<◌, ◌∙◌, Some, slice_get, slice_set, length, refl, sym, ap, arith, rules, length-set}
 use Rattle.std.proofs.lemmas.Option.{slice_get_read}
 use Rattle.aw_dim.specs.DimensionState.{Entry}
-use Rattle.aw_dim.proofs.Placing.{mark_step}
+use Rattle.aw_dim.proofs.PlacesOfSlots.{mark_step}
 use Rattle.aw_dim.proofs.index.mark_places.Goals as goal
 
 pub index_mut-requires : goal.index_mut-requires

@@ -1,7 +1,7 @@
 use Rattle.std.proofs.Common.{ℕ, List, ◌≡◌, ◌<◌, ◌∙◌, Some, slice_get, get_or, length, refl, sym, ap, arith, rules}
 use Rattle.std.proofs.lemmas.Option.{slice_get_read, slice_get-get_or}
 use Rattle.aw_dim.specs.DimensionState.{Entry}
-use Rattle.aw_dim.proofs.Placing.{found_step}
+use Rattle.aw_dim.proofs.PlacesOfSlots.{found_step}
 use Rattle.aw_dim.proofs.making.are_placed.Goals as goal
 
 pub bounds-places-from : goal.bounds-places-from

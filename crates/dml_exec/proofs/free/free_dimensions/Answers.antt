@@ -2,7 +2,7 @@ use Rattle.std.proofs.Common.{◌≡◌, ◌∙◌, ℕ, ◌+◌, ◌<◌, List,
 use Rattle.std.proofs.lemmas.List.{at_drop_more}
 use Rattle.dml_exec.specs.declared.op.Op.{Op}
 use Rattle.dml_exec.specs.Free.{free_in, free_in_op, with_all}
-use Rattle.dml_exec.proofs.Gathering.{all_append}
+use Rattle.dml_exec.proofs.FreeDimensions.{all_append}
 use Rattle.dml_exec.proofs.free.free_dimensions.Goals as goal
 
 pub loop-op-preserved : goal.loop-op-preserved

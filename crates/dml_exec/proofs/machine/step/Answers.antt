@@ -2,9 +2,9 @@ use Rattle.std.proofs.Common.{◌≡◌, ◌∙◌, ℕ, ◌+◌, Some, sym, ap,
 use Rattle.std.specs.List.{slice_get}
 use Rattle.dml_exec.specs.declared.op.Op.{Op}
 use Rattle.dml_exec.specs.declared.op.Op.TheVariants.{Local, Load}
-use Rattle.dml_exec.specs.Meaning.{Reading, reading, turn, pushed, coordinate}
+use Rattle.dml_exec.specs.Meaning.{CodeInputs, code_inputs, turn, pushed, coordinate}
 use Rattle.dml_exec.specs.inside.MachineSteps.{CanTurn, MayTurn}
-use Rattle.dml_exec.proofs.Placing.{coordinate-length, local-is}
+use Rattle.dml_exec.proofs.AxisSlots.{coordinate-length, local-is}
 use Rattle.dml_exec.proofs.machine.step.Goals as goal
 
 pub cell-requires : goal.cell-requires
@@ -15,7 +15,7 @@ cell-requires g c =
 
 pub returns-in-Local-clause-turned : goal.returns-in-Local-clause-turned
 returns-in-Local-clause-turned g c =
-    let r : Reading = reading (g.C.Cells.cell_at c.args.cells.now) (g.C.Cells.name_at c.args.cells.now) c.args.place.now c.args.fixed.now c.args.locals.now in
+    let r : CodeInputs = code_inputs (g.C.Cells.cell_at c.args.cells.now) (g.C.Cells.name_at c.args.cells.now) c.args.place.now c.args.fixed.now c.args.locals.now in
     let cells = c.args.stack.now.cells in
     let locals = c.args.locals.now in
     let cell = c.index-locals-from.result in

@@ -1,7 +1,7 @@
 use Rattle.std.proofs.Common.{◌≡◌, ◌∙◌, ℕ, ◌<◌, ◌≤◌, [], length, take, Some, refl, sym, ap, arith, length-take-le}
 use Rattle.std.proofs.Math.ListN.{length-set}
 use Rattle.dml_exec.specs.declared.op.Axis.TheVariants.{Free}
-use Rattle.dml_exec.proofs.Placing.{behind-first, behind-more, placed, axis-placed, all-placed}
+use Rattle.dml_exec.proofs.AxisSlots.{behind-first, behind-more, placed, axis-placed, all-placed}
 use Rattle.dml_exec.proofs.place.coordinate.Goals as goal
 
 pub loop-at-init : goal.loop-at-init

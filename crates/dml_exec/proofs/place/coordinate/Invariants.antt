@@ -1,6 +1,6 @@
 use Rattle.std.proofs.Common.{◌≡◌, length, take, drop}
 use Rattle.dml_exec.specs.Meaning.{slots_of}
-use Rattle.dml_exec.proofs.Placing.{slots_behind}
+use Rattle.dml_exec.proofs.AxisSlots.{slots_behind}
 use Rattle.dml_exec.proofs.place.coordinate.Given as goal
 
 abbrev pub invariant-loop-at : goal.invariant-loop-at

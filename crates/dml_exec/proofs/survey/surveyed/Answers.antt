@@ -3,7 +3,7 @@ use Rattle.aw_cell.specs.declared.cell.Kind.{Kind}
 use Rattle.dml_exec.specs.declared.survey.Survey.{Survey}
 use Rattle.dml_exec.specs.Verified.{Rules, rules_of}
 use Rattle.dml_exec.specs.inside.Arrivals.{Arrives, Surveys, Visited}
-use Rattle.dml_exec.proofs.Arriving.{surveys-first, found-fault, found-sound}
+use Rattle.dml_exec.proofs.ReachedPlaces.{surveys-first, found-fault, found-sound}
 use Rattle.dml_exec.proofs.survey.surveyed.Goals as goal
 
 pub loop-at-init : goal.loop-at-init

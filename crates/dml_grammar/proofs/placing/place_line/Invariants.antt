@@ -1,5 +1,5 @@
 use Rattle.std.proofs.Common.{◌≡◌, ◌+◌, ◌++◌, drop}
-use Rattle.dml_grammar.specs.Placing.{placed, placed_from}
+use Rattle.dml_grammar.specs.PlacedTokens.{placed, placed_from}
 use Rattle.dml_grammar.proofs.placing.place_line.Given as goal
 
 abbrev pub invariant-loop-token : goal.invariant-loop-token

@@ -1,5 +1,5 @@
 use Rattle.std.proofs.Common.{◌≡◌, ◌+◌, ◌++◌, drop}
-use Rattle.dml_grammar.specs.Placing.{placed_lines, within}
+use Rattle.dml_grammar.specs.PlacedTokens.{placed_lines, within}
 use Rattle.dml_grammar.proofs.placing.place_lines.Given as goal
 
 abbrev pub invariant-loop-line : goal.invariant-loop-line

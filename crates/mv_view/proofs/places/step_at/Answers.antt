@@ -1,5 +1,5 @@
 use Rattle.std.proofs.Common.{arith}
-use Rattle.mv_view.proofs.Placing.{written-there, nothing-there, past-all}
+use Rattle.mv_view.proofs.WrittenPlaces.{written-there, nothing-there, past-all}
 use Rattle.mv_view.specs.inside.Steps.{stepped}
 use Rattle.mv_view.proofs.places.step_at.Goals as goal
 

@@ -5,7 +5,7 @@ use Rattle.aw_body.specs.Bodies.{IsBody}
 use Rattle.aw_body.specs.BodyPatches.{applied}
 use Rattle.mv_view.specs.ViewState.{ObjectView}
 use Rattle.mv_view.specs.Rules as rule
-use Rattle.mv_view.proofs.Placing.{written-there, past-all, set-same, missing-past}
+use Rattle.mv_view.proofs.WrittenPlaces.{written-there, past-all, set-same, missing-past}
 use Rattle.mv_view.proofs.Paging.{ok-map, err-map}
 use Rattle.mv_view.proofs.places.write_at.Goals as goal
 

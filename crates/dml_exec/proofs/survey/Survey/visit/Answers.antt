@@ -4,7 +4,7 @@ use Rattle.std.proofs.lemmas.Option.{slice_get_read}
 use Rattle.dml_exec.specs.declared.flow.Way.{Way}
 use Rattle.dml_exec.specs.Verified.{rules_of, onward}
 use Rattle.dml_exec.specs.inside.Arrivals.{flowed}
-use Rattle.dml_exec.proofs.Arriving.{never-visited, torn-bad, stuck-bad, spread-visited}
+use Rattle.dml_exec.proofs.ReachedPlaces.{never-visited, torn-bad, stuck-bad, spread-visited}
 use Rattle.dml_exec.proofs.survey.Survey.visit.Goals as goal
 
 pub returns-in-Never : goal.returns-in-Never

@@ -14,9 +14,9 @@ use Rattle.dml_kinds.specs.Meanings.{Names}
 use Rattle.dml_kinds.specs.Names.{targets, uses, groups, names_refusal}
 use Rattle.dml_kinds.specs.Types.{type_of}
 use Rattle.dml_kinds.specs.FreeDimensions.{first_appearances, target_dimensions, fixes_fit, dimensions_fit}
-use Rattle.dml_kinds.specs.Checking.{first_refusal, answer, unless, expression_weight, typed, expression_answer}
+use Rattle.dml_kinds.specs.Checking.{first_refusal, answer, unless, expression_weight, typed, expression_answer, formula_kind, formula_typed, formula_answer}
 use Rattle.dml_kinds.specs.inside.Capped.{capped}
-use Rattle.dml_kinds.specs.inside.Parts.{part_answer, part_of, up_to_six}
+use Rattle.dml_kinds.specs.inside.Parts.{part_answer, part_of, formula_part, up_to_six}
 
 abbrev typed_as : ValueType → List ℕ → ℕ → TypedExpr
 typed_as kind dimensions weight = record { kind = kind; dimensions = dimensions; weight = weight }
@@ -62,3 +62,14 @@ settled_expression names e none =
 pub refused_expression : (names : Names) (e : Expr) (fault : TypeFault) → names_refusal names (uses (targets e)) (groups (targets e)) ≡ Some fault → expression_answer names e ≡ Err fault
 refused_expression names e fault refused =
     ap (λ first. answer (first_refusal first (is_some (type_of names e)) (dimensions_fit names e) (expression_weight names e)) (typed names e)) refused
+
+-- ---- of a formula
+
+pub settled_formula : (names : Names) (e : Expr) → names_refusal names (uses (targets e)) (groups (targets e)) ≡ None → part_answer (formula_part names e) ≡ formula_answer names e
+settled_formula names e none =
+    found (formula_kind (type_of names e)) (list_all (fixes_fit names) (targets e)) (first_appearances (flat_map (target_dimensions names) (targets e))) (expression_weight names e)
+    ∙ ap (λ refused. answer (first_refusal refused (is_some (formula_kind (type_of names e))) (dimensions_fit names e) (expression_weight names e)) (formula_typed names e)) (sym none)
+
+pub refused_formula : (names : Names) (e : Expr) (fault : TypeFault) → names_refusal names (uses (targets e)) (groups (targets e)) ≡ Some fault → formula_answer names e ≡ Err fault
+refused_formula names e fault refused =
+    ap (λ first. answer (first_refusal first (is_some (formula_kind (type_of names e))) (dimensions_fit names e) (expression_weight names e)) (formula_typed names e)) refused

@@ -18,12 +18,12 @@ use Rattle.dml_exec.specs.declared.kinds.ObjectKind.TheVariants.{Dimension, Cell
 use Rattle.dml_exec.specs.declared.op.Op.{Op}
 use Rattle.dml_exec.specs.declared.op.Op.TheVariants.{Local}
 use Rattle.dml_exec.specs.Free.{is_among, with_one, with_all, free_in, free_in_op}
-use Rattle.dml_exec.specs.Meaning.{Reading, Standing, Outcome, turn, then_on, going, ended, sole, meaning}
+use Rattle.dml_exec.specs.Meaning.{CodeInputs, Standing, Outcome, turn, then_on, going, ended, sole, meaning}
 use Rattle.dml_exec.specs.CodeRuns.{Accepts, Fits, MayAsk, CanRun, rules_for, EndsWith, IsAnswered, AcceptedCodeIsNeverStuck}
 use Rattle.dml_exec.specs.Verified.{Rules, onward, Onward, GoesTo, Leads, LeadTo, Reaches, IsStuck, IsBad, EndsBadly}
 use Rattle.dml_exec.specs.inside.MachineSteps.{AreOf, CanTurn, MayTurn, Stands}
-use Rattle.dml_exec.proofs.Arriving.{lead-up}
-use Rattle.dml_exec.proofs.Kinding.{Of}
+use Rattle.dml_exec.proofs.ReachedPlaces.{lead-up}
+use Rattle.dml_exec.proofs.OperatorKinds.{Of}
 use Rattle.dml_exec.proofs.MachineSteps.{OpFits, Turned, turned, GoesAhead, goes-ahead}
 
 -- ---- free dimensions
@@ -67,7 +67,7 @@ free-has (first ∷ ops) (suc at) op dimension is h =
 
 -- ---- what an op reads
 
-op-fits : (kinds : Kinds) (code : Code) (r : Reading) → Accepts kinds code → Fits kinds code r → (at : ℕ) (op : Op) → slice_get code.ops at ≡ Some op → OpFits (rules_for kinds code) r op
+op-fits : (kinds : Kinds) (code : Code) (r : CodeInputs) → Accepts kinds code → Fits kinds code r → (at : ℕ) (op : Op) → slice_get code.ops at ≡ Some op → OpFits (rules_for kinds code) r op
 op-fits kinds code r accepted fits at op is = record {
   places = λ dimension h. fits.places dimension (subst (λ (free : List ℕ). IsTrue (is_among free dimension)) (sym accepted.free) (all-has [] (free_in code.ops) dimension (free-has code.ops at op dimension is h)));
   fixed = fits.fixed;
@@ -96,7 +96,7 @@ there [] at h = absurd (omega arith)
 there (x ∷ xs) zero h = (x, refl)
 there (x ∷ xs) (suc at) h = there xs at (omega arith)
 
-pub passed : (r : Reading) (ops : List Op) (cells : List Cell) (to more at : ℕ) → at + more ≡ to → going r at (drop at ops) (to, cells) ≡ going r to (drop to ops) (to, cells)
+pub passed : (r : CodeInputs) (ops : List Op) (cells : List Cell) (to more at : ℕ) → at + more ≡ to → going r at (drop at ops) (to, cells) ≡ going r to (drop to ops) (to, cells)
 passed r ops cells to zero at e = let same : at ≡ to = omega arith in ap (λ (n : ℕ). going r n (drop n ops) (to, cells)) same
 passed r ops cells to (suc more) at e =
     ⊎_elim
@@ -113,7 +113,7 @@ passed r ops cells to (suc more) at e =
     (cases_lt at (length ops))
 
 -- the op at its place is taken
-pub taken : (r : Reading) (ops : List Op) (at : ℕ) (op : Op) (cells : List Cell) → slice_get ops at ≡ Some op → going r at (drop at ops) (at, cells) ≡ then_on (going r (at + 1) (drop (suc at) ops)) (turn r at op cells)
+pub taken : (r : CodeInputs) (ops : List Op) (at : ℕ) (op : Op) (cells : List Cell) → slice_get ops at ≡ Some op → going r at (drop at ops) (at, cells) ≡ then_on (going r (at + 1) (drop (suc at) ops)) (turn r at op cells)
 taken r ops at op cells is =
     ap (λ (xs : List Op). going r at xs (at, cells)) (drop-at ops at op is)
     ∙ ap (λ (t : Truth). cond t (then_on (going r (at + 1) (drop (suc at) ops)) (turn r at op cells)) (going r (at + 1) (drop (suc at) ops) (at, cells))) (eq-eqb at at refl)
@@ -139,14 +139,14 @@ same-length (kind ∷ kinds) [] are = absurd are
 same-length (kind ∷ kinds) (cell ∷ cells) are = ap suc (same-length kinds cells are.1)
 
 -- what an op does where accepted code stands
-pub record Steps (kinds : Kinds) (code : Code) (r : Reading) (at : ℕ) (op : Op) (cells : List Cell) : Type 0 where
+pub record Steps (kinds : Kinds) (code : Code) (r : CodeInputs) (at : ℕ) (op : Op) (cells : List Cell) : Type 0 where
   pub way : Way
   pub after : List Kind
   pub turns : Turned at way after (turn r at op cells)
   pub goes_ahead : GoesAhead (length code.ops) at way
   pub leads : (place : ℕ) → GoesTo at way place → Reaches (rules_for kinds code) place after
 
-pub steps : (kinds : Kinds) (code : Code) (r : Reading) → Accepts kinds code → Fits kinds code r → (at : ℕ) (op : Op) (stack : List Kind) (cells : List Cell) → slice_get code.ops at ≡ Some op → Reaches (rules_for kinds code) at stack → AreOf stack cells → Steps kinds code r at op cells
+pub steps : (kinds : Kinds) (code : Code) (r : CodeInputs) → Accepts kinds code → Fits kinds code r → (at : ℕ) (op : Op) (stack : List Kind) (cells : List Cell) → slice_get code.ops at ≡ Some op → Reaches (rules_for kinds code) at stack → AreOf stack cells → Steps kinds code r at op cells
 steps kinds code r accepted fits at op stack cells is reached are =
     let rules : Rules = rules_for kinds code in
     let within : at < length code.ops = slice_get_within code.ops at op is in
@@ -164,7 +164,7 @@ steps kinds code r accepted fits at op stack cells is reached are =
 
 -- ---- where a run stands
 
-module _ (code : Code) (r : Reading) (may_read : ℕ → List ℕ → Type 0) (may_name : ℕ → ℕ → Type 0) where
+module _ (code : Code) (r : CodeInputs) (may_read : ℕ → List ℕ → Type 0) (may_name : ℕ → ℕ → Type 0) where
   abbrev At : ℕ → List Cell → Type 0
   At next cells = Stands code r may_read may_name next cells
 

@@ -12,12 +12,12 @@ use Rattle.dml_exec.specs.declared.kinds.Kinds.{Kinds}
 use Rattle.dml_exec.specs.declared.op.Axis.{Axis}
 use Rattle.dml_exec.specs.declared.op.Op.{Op}
 use Rattle.dml_exec.specs.declared.op.Op.TheVariants.{Push, Local, Load, Name, NameOf, Add, Sub, Mul, Div, Neg, Abs, Min, Max, NaFill, Convert, Compare, And, Or, Not, Branch, Jump}
-use Rattle.dml_exec.specs.Meaning.{Reading}
+use Rattle.dml_exec.specs.Meaning.{CodeInputs}
 use Rattle.dml_exec.specs.CodeRuns.{MayAsk, rules_for}
 use Rattle.dml_exec.specs.Verified.{Rules, onward, Onward, kind_pushed, kinds_named, name_of_kind, kind_named, kind_read, is_axis, is_dimension}
 use Rattle.dml_exec.specs.inside.MachineSteps.{MayTurn, Stands}
-use Rattle.dml_exec.proofs.Going.{some-of}
-use Rattle.dml_exec.proofs.Kinding.{when-some}
+use Rattle.dml_exec.proofs.CodeSteps.{some-of}
+use Rattle.dml_exec.proofs.OperatorKinds.{when-some}
 use Rattle.dml_exec.proofs.MachineSteps.{kind-read, dimension-is}
 
 none-some : {A : Type 0} (a : A) → None ≡ Some a → ⊥
@@ -55,7 +55,7 @@ asks r may_read may_name may at (NameOf dimension) stack goes e =
     λ slot. may.names dimension slot (dimension-is (slice_get r.kinds.objects dimension) (named-dimension r.kinds dimension stack goes e))
 asks r may_read may_name may at _ stack goes e = tt
 
-pub stands-asks : (code : Code) (r : Reading) (may_read : ℕ → List ℕ → Type 0) (may_name : ℕ → ℕ → Type 0) (next : ℕ) (cells : List Cell) (op : Op) → Stands code r may_read may_name next cells → slice_get code.ops next ≡ Some op → MayTurn may_read may_name op
+pub stands-asks : (code : Code) (r : CodeInputs) (may_read : ℕ → List ℕ → Type 0) (may_name : ℕ → ℕ → Type 0) (next : ℕ) (cells : List Cell) (op : Op) → Stands code r may_read may_name next cells → slice_get code.ops next ≡ Some op → MayTurn may_read may_name op
 stands-asks code r may_read may_name next cells op s is =
     let rules : Rules = rules_for s.can.kinds code in
     let fine : onward rules next op s.stack ≡ None → ⊥ = λ stuck. s.can.accepted.sound.ops next (inl (record { op = op; stack = s.stack; here = is; reached = s.reached; stuck = stuck })) in
