@@ -1,5 +1,5 @@
 -- What an op asks for may be asked for.
-use Rattle.std.proofs.Common.{◌≡◌, ◌∙◌, ℕ, ◌+◌, ◌<◌, ◌≤◌, Bool as Truth, true, false, ◌&&◌, leb, eqb, List, [], ◌∷◌, length, Option, Some, None, refl, sym, inl}
+use Rattle.std.proofs.Common.{◌≡◌, ◌∙◌, ℕ, ◌&&◌, leb, eqb, List, [], ◌∷◌, length, Option, Some, None, refl, inl}
 use Rattle.std.specs.Bool.{IsTrue}
 use Rattle.std.specs.List.{slice_get, list_all}
 use Rattle.std.proofs.lemmas.Bool.{and_parts, eqb-true}
@@ -9,12 +9,11 @@ use Rattle.aw_cell.specs.declared.cell.Kind.TheVariants.{Num as NumberKind, Int 
 use Rattle.dml_exec.specs.declared.code.Code.{Code}
 use Rattle.dml_exec.specs.declared.flow.Way.{Way}
 use Rattle.dml_exec.specs.declared.kinds.Kinds.{Kinds}
-use Rattle.dml_exec.specs.declared.op.Axis.{Axis}
 use Rattle.dml_exec.specs.declared.op.Op.{Op}
-use Rattle.dml_exec.specs.declared.op.Op.TheVariants.{Push, Local, Load, Name, NameOf, Add, Sub, Mul, Div, Neg, Abs, Min, Max, NaFill, Convert, Compare, And, Or, Not, Branch, Jump}
+use Rattle.dml_exec.specs.declared.op.Op.TheVariants.{Load, Name, NameOf}
 use Rattle.dml_exec.specs.Meaning.{CodeInputs}
 use Rattle.dml_exec.specs.CodeRuns.{MayAsk, rules_for}
-use Rattle.dml_exec.specs.Verified.{Rules, onward, Onward, kind_pushed, kinds_named, name_of_kind, kind_named, kind_read, is_axis, is_dimension}
+use Rattle.dml_exec.specs.Verified.{Rules, onward, kind_pushed, kinds_named, name_of_kind, kind_named, kind_read, is_axis, is_dimension}
 use Rattle.dml_exec.specs.inside.MachineSteps.{MayTurn, Stands}
 use Rattle.dml_exec.proofs.CodeSteps.{some-of}
 use Rattle.dml_exec.proofs.OperatorKinds.{when-some}

@@ -1,9 +1,7 @@
 -- A run of accepted code, step by step.
-use Rattle.std.proofs.Common.{◌≡◌, ◌⊎◌, ◌∙◌, ℕ, zero, suc, ◌+◌, ◌-◌, ◌<◌, ◌≤◌, Bool as Truth, true, false, ◌||◌, cond, eqb, eq-eqb, List, [], ◌∷◌, ◌++◌, length, drop, get_or, Option, Some, None, Result, Ok, Err, refl, sym, ap, subst, inl, inr, ⊎_elim, arith, add-one}
+use Rattle.std.proofs.Common.{◌≡◌, ◌∙◌, ℕ, zero, suc, ◌+◌, ◌-◌, ◌<◌, ◌≤◌, Bool as Truth, false, ◌||◌, cond, eqb, eq-eqb, List, [], ◌∷◌, ◌++◌, length, drop, Some, None, Ok, Err, refl, sym, ap, subst, inl, inr, ⊎_elim, arith, add-one}
 use Rattle.std.specs.Bool.{IsTrue}
-use Rattle.std.specs.List.{slice_get, list_any, Contains}
-use Rattle.std.specs.Option.{IsSome, IsSomeAnd}
-use Rattle.std.specs.Result.{IfOk}
+use Rattle.std.specs.List.{slice_get}
 use Rattle.std.proofs.lemmas.Bool.{false≢true, or_cases, or_left, or_right, eqb-true, ne_eqb, cases_eq, cases_lt, cases_Bool}
 use Rattle.std.proofs.lemmas.List.Folds.{list_any-append}
 use Rattle.std.proofs.lemmas.Option.{slice_get_within, get_or_from_slice_get}
@@ -14,14 +12,13 @@ use Rattle.dml_exec.specs.declared.code.Code.{Code}
 use Rattle.dml_exec.specs.declared.flow.Way.{Way}
 use Rattle.dml_exec.specs.declared.flow.Way.TheVariants.{Next, Leap, Fork}
 use Rattle.dml_exec.specs.declared.kinds.Kinds.{Kinds}
-use Rattle.dml_exec.specs.declared.kinds.ObjectKind.TheVariants.{Dimension, Cells}
 use Rattle.dml_exec.specs.declared.op.Op.{Op}
 use Rattle.dml_exec.specs.declared.op.Op.TheVariants.{Local}
 use Rattle.dml_exec.specs.Free.{is_among, with_one, with_all, free_in, free_in_op}
-use Rattle.dml_exec.specs.Meaning.{CodeInputs, Standing, Outcome, turn, then_on, going, ended, sole, meaning}
-use Rattle.dml_exec.specs.CodeRuns.{Accepts, Fits, MayAsk, CanRun, rules_for, EndsWith, IsAnswered, AcceptedCodeIsNeverStuck}
-use Rattle.dml_exec.specs.Verified.{Rules, onward, Onward, GoesTo, Leads, LeadTo, Reaches, IsStuck, IsBad, EndsBadly}
-use Rattle.dml_exec.specs.inside.MachineSteps.{AreOf, CanTurn, MayTurn, Stands}
+use Rattle.dml_exec.specs.Meaning.{CodeInputs, Outcome, turn, then_on, going, ended, sole, meaning}
+use Rattle.dml_exec.specs.CodeRuns.{Accepts, Fits, CanRun, rules_for, EndsWith}
+use Rattle.dml_exec.specs.Verified.{Rules, onward, Onward, GoesTo, Reaches}
+use Rattle.dml_exec.specs.inside.MachineSteps.{AreOf, CanTurn, Stands}
 use Rattle.dml_exec.proofs.ReachedPlaces.{lead-up}
 use Rattle.dml_exec.proofs.OperatorKinds.{Of}
 use Rattle.dml_exec.proofs.MachineSteps.{OpFits, Turned, turned, GoesAhead, goes-ahead}

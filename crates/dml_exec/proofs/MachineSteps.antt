@@ -1,13 +1,12 @@
 -- An op that takes the kinds of the cells isn't stuck on cells of these kinds, and goes on as it does with the kinds.
-use Rattle.std.proofs.Common.{◌≡◌, ◌⊎◌, ◌∙◌, ℕ, ◌+◌, ◌<◌, ◌≤◌, Bool as Truth, true, false, ◌&&◌, cond, leb, ltb, List, [], ◌∷◌, ◌++◌, length, Option, Some, None, Result, Ok, Err, refl, sym, ap, subst, inl, inr, ⊎_elim, arith, eqb, eq-eqb, get_or, suc, ◌||◌, unwrap_or}
+use Rattle.std.proofs.Common.{◌≡◌, ◌∙◌, ℕ, ◌+◌, ◌<◌, ◌≤◌, Bool as Truth, true, false, ◌&&◌, leb, ltb, List, [], ◌∷◌, length, Option, Some, None, Result, Ok, Err, refl, sym, ap, subst, inl, inr, arith, eqb, eq-eqb, get_or, suc, ◌||◌, unwrap_or}
 use Rattle.std.specs.Bool.{IsTrue}
-use Rattle.std.specs.List.{slice_get, list_all, find, Contains}
+use Rattle.std.specs.List.{slice_get, list_all}
 use Rattle.std.specs.Option.{IsSome, IsSomeAnd, option_map, option_and_then}
-use Rattle.std.specs.Result.{IfOk}
 use Rattle.std.proofs.lemmas.Bool.{false≢true, and_parts, or_left, or_right, eqb-true, ltb-true, leb-true}
-use Rattle.std.proofs.lemmas.Option.{slice_get_within, slice_get-get_or, get_or_from_slice_get}
+use Rattle.std.proofs.lemmas.Option.{slice_get-get_or}
 use Rattle.aw_cell.specs.declared.cell.Cell.{Cell}
-use Rattle.aw_cell.specs.declared.cell.Cell.TheVariants.{Na, Num, Int, Text, Bool, Slot}
+use Rattle.aw_cell.specs.declared.cell.Cell.TheVariants.{Na, Bool, Slot}
 use Rattle.aw_cell.specs.declared.cell.Kind.{Kind}
 use Rattle.aw_cell.specs.declared.cell.Kind.TheVariants.{Num as NumberKind, Int as IntegerKind, Text as TextKind, Bool as BooleanKind, Slot as SlotKind}
 use Rattle.aw_cell.specs.declared.number.Arith.{Arith}
@@ -26,11 +25,11 @@ use Rattle.dml_exec.specs.declared.operator.Unary.TheVariants.{Neg as Negates, A
 use Rattle.dml_exec.specs.declared.operator.Binary.{Binary}
 use Rattle.dml_exec.specs.declared.operator.Binary.TheVariants.{Add as Adds, Sub as Subtracts, Mul as Multiplies, Div as Divides, Min as TakesLeast, Max as TakesGreatest, NaFill as Fills, Compare as Compares, And as Joins, Or as Offers}
 use Rattle.dml_exec.specs.Free.{is_among, free_in_axes, free_in_op}
-use Rattle.dml_exec.specs.Meaning.{CodeInputs, Outcome, slot_at, slot_of_axis, slots_of, coordinate, answered, pushed, on_one, on_two, name_of, named, branched, on_branch, turn}
+use Rattle.dml_exec.specs.Meaning.{CodeInputs, Outcome, slot_at, slot_of_axis, slots_of, coordinate, answered, pushed, on_one, on_two, name_of, named, on_branch, turn}
 use Rattle.dml_exec.specs.Operators.{when, of_one, of_two, kind_of_one, kind_of_two}
-use Rattle.dml_exec.specs.Verified.{Rules, onward, Onward, kind_pushed, kinds_on_one, kinds_on_two, kinds_named, name_of_kind, kind_named, kind_read, are_axes, is_axis, is_dimension, is_dimension_kind, is_ahead, forked, GoesTo}
+use Rattle.dml_exec.specs.Verified.{Rules, onward, kind_pushed, kinds_on_one, kinds_on_two, kinds_named, name_of_kind, kind_named, kind_read, are_axes, is_axis, is_dimension, is_dimension_kind, is_ahead, forked, GoesTo}
 use Rattle.dml_exec.specs.inside.MachineSteps.{AreOf}
-use Rattle.dml_exec.proofs.OperatorKinds.{Of, GivesOf, Gives, when-some, one-gives, two-gives}
+use Rattle.dml_exec.proofs.OperatorKinds.{Of, Gives, when-some, one-gives, two-gives}
 
 same_Some : {A : Type 0} (a b : A) → Some a ≡ Some b → a ≡ b
 same_Some a b e = cc

@@ -1,16 +1,15 @@
 -- Accepted code runs to its end, or to a refusal.
-use Rattle.std.proofs.Common.{◌≡◌, ◌⊎◌, ◌∙◌, ℕ, zero, suc, ◌+◌, ◌-◌, ◌<◌, ◌≤◌, List, [], length, drop, Option, Some, None, Result, Ok, Err, refl, ap, subst, ⊎_elim, arith, add-one}
+use Rattle.std.proofs.Common.{◌≡◌, ◌∙◌, ℕ, zero, suc, ◌+◌, ◌-◌, ◌<◌, ◌≤◌, List, [], length, drop, Some, None, Ok, Err, refl, ap, subst, ⊎_elim, arith, add-one}
 use Rattle.std.specs.List.{slice_get}
 use Rattle.std.proofs.lemmas.Bool.{cases_lt}
 use Rattle.aw_cell.specs.declared.cell.Cell.{Cell}
 use Rattle.aw_cell.specs.declared.cell.Kind.{Kind}
-use Rattle.aw_cell.specs.declared.number.Arith.{Arith}
 use Rattle.dml_exec.specs.declared.code.Code.{Code}
 use Rattle.dml_exec.specs.declared.kinds.Kinds.{Kinds}
 use Rattle.dml_exec.specs.declared.op.Op.{Op}
-use Rattle.dml_exec.specs.Meaning.{CodeInputs, Standing, Outcome, turn, going, then_on, ended, meaning}
+use Rattle.dml_exec.specs.Meaning.{CodeInputs, Outcome, turn, going, then_on, ended}
 use Rattle.dml_exec.specs.CodeRuns.{Accepts, Fits, rules_for, IsAnswered, AcceptedCodeIsNeverStuck}
-use Rattle.dml_exec.specs.Verified.{Reaches, GoesTo}
+use Rattle.dml_exec.specs.Verified.{Reaches}
 use Rattle.dml_exec.specs.inside.MachineSteps.{AreOf, Stands}
 use Rattle.dml_exec.proofs.CodeSteps.{Steps, steps, there, taken, passed, ahead, stands-ended}
 use Rattle.dml_exec.proofs.MachineSteps.{Turned}

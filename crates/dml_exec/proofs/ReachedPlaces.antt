@@ -1,9 +1,9 @@
 -- What a survey keeps tells with which lists of kinds each place is reached.
-use Rattle.std.proofs.Common.{◌≡◌, ◌≢◌, ◌⊎◌, ◌∙◌, ℕ, suc, zero, ◌+◌, ◌<◌, ◌≤◌, Bool as Truth, true, false, ◌&&◌, eqb, cond, List, [], ◌∷◌, length, Option, Some, None, Result, Ok, Err, refl, sym, ap, subst, inl, inr, ⊎_elim, arith, add-one, max}
+use Rattle.std.proofs.Common.{◌≡◌, ◌⊎◌, ◌∙◌, ℕ, suc, zero, ◌+◌, ◌<◌, ◌≤◌, Bool as Truth, true, false, ◌&&◌, eqb, cond, List, [], ◌∷◌, length, Some, None, Ok, refl, sym, ap, subst, inl, inr, ⊎_elim, arith}
 use Rattle.std.specs.List.{slice_get}
-use Rattle.std.proofs.lemmas.Bool.{cases_eq, cases_lt, eqb-true, ne_eqb}
+use Rattle.std.proofs.lemmas.Bool.{cases_eq}
 use Rattle.std.proofs.lemmas.Bool.Decides.{eqb_tells}
-use Rattle.std.proofs.lemmas.Option.{slice_get_within, slice_get_cases, slice_get_past}
+use Rattle.std.proofs.lemmas.Option.{slice_get_within}
 use Rattle.aw_cell.specs.declared.cell.Kind.{Kind}
 use Rattle.dml_exec.specs.declared.arrivals.Arrival.{Arrival}
 use Rattle.dml_exec.specs.declared.arrivals.Arrival.TheVariants.{Never, With, Torn}
@@ -11,7 +11,7 @@ use Rattle.dml_exec.specs.declared.flow.Way.{Way}
 use Rattle.dml_exec.specs.declared.flow.Way.TheVariants.{Next, Leap, Fork}
 use Rattle.dml_exec.specs.declared.op.Op.{Op}
 use Rattle.dml_exec.specs.declared.survey.Survey.{Survey}
-use Rattle.dml_exec.specs.Verified.{Rules, onward, GoesTo, Leads, LeadTo, Reaches, IsStuck, IsTorn, IsBad, EndsBadly, IsFirstFault, IsSound}
+use Rattle.dml_exec.specs.Verified.{Rules, onward, GoesTo, Leads, LeadTo, Reaches, IsStuck, IsTorn, IsBad, IsFirstFault}
 use Rattle.dml_exec.specs.inside.Arrivals.{Arrived, Arrives, TakesOut, Spreads, IsOnly, HasTwo, Tells, TellsEnd, SurveysBy, Surveys, Found, AreUnreached}
 
 -- ---- one place

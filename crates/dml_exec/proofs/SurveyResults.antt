@@ -1,9 +1,9 @@
 -- What a survey begins with, and what follows from what it found.
-use Rattle.std.proofs.Common.{◌≡◌, ◌∙◌, ℕ, zero, suc, ◌+◌, ◌<◌, ◌≤◌, List, [], ◌∷◌, ◌++◌, length, Option, Some, None, Ok, refl, sym, ap, ⊎_elim, arith, add-one}
+use Rattle.std.proofs.Common.{◌≡◌, ◌∙◌, ℕ, zero, suc, ◌+◌, ◌<◌, ◌≤◌, List, [], ◌∷◌, ◌++◌, length, Some, None, Ok, refl, sym, ap, ⊎_elim, arith, add-one}
 use Rattle.std.specs.List.{slice_get}
 use Rattle.std.proofs.lemmas.Option.{slice_get_within}
 use Rattle.dml_exec.specs.declared.arrivals.Arrival.{Arrival}
-use Rattle.dml_exec.specs.declared.arrivals.Arrival.TheVariants.{Never, With, Torn}
+use Rattle.dml_exec.specs.declared.arrivals.Arrival.TheVariants.{Never}
 use Rattle.dml_exec.specs.declared.code.Code.{Code}
 use Rattle.dml_exec.specs.declared.kinds.Kinds.{Kinds}
 use Rattle.dml_exec.specs.declared.op.Op.{Op}

@@ -1,10 +1,10 @@
 -- Worked cases, each worked out by hand: runs, refusals, machines that are stuck, what is reached, and the first fault.
-use Rattle.std.proofs.Common.{◌≡◌, ℕ, ◌*◌, ◌-◌, [], ◌∷◌, List, length, Option, Some, None, Ok, Err, refl, inl, inr, arith, pos, negsuc, true, false}
+use Rattle.std.proofs.Common.{◌≡◌, ℕ, ◌*◌, ◌-◌, [], ◌∷◌, List, Some, None, Ok, Err, refl, inl, inr, arith, pos, true, false}
 use Rattle.std.specs.Prelude.{codes}
 use Rattle.aw_cell.specs.declared.cell.Cell.{Cell}
-use Rattle.aw_cell.specs.declared.cell.Cell.TheVariants.{Na, Num, Int, Text as Chars, Bool, Slot}
+use Rattle.aw_cell.specs.declared.cell.Cell.TheVariants.{Na, Num, Int, Text as Chars, Bool}
 use Rattle.aw_cell.specs.declared.cell.Kind.TheVariants.{Num as NUMBER, Int as INTEGER, Text as TEXT, Bool as BOOLEAN}
-use Rattle.aw_cell.specs.declared.number.Arith.TheVariants.{Overflow, DivideByZero}
+use Rattle.aw_cell.specs.declared.number.Arith.TheVariants.{DivideByZero}
 use Rattle.dml_exec.specs.declared.kinds.Kinds.{Kinds}
 use Rattle.dml_exec.specs.declared.kinds.ObjectKind.TheVariants.{Dimension, Cells}
 use Rattle.dml_exec.specs.declared.flow.Way.TheVariants.{Next}

@@ -1,5 +1,5 @@
 -- What a run asks of what it reads.
-use Rattle.std.specs.Prelude.{◌≡◌, ℕ, ◌≤◌, ◌∷◌, [], List, length, Option, Some, Result, slice_get, IsTrue, IsSome, IfOk}
+use Rattle.std.specs.Prelude.{◌≡◌, ℕ, ◌≤◌, ◌∷◌, [], List, length, Some, Result, slice_get, IsTrue, IsSome, IfOk}
 use Rattle.std.specs.Option.{IsSomeAnd}
 use Rattle.std.specs.List.{Contains}
 use Rattle.aw_cell.specs.declared.cell.Cell.{Cell}
@@ -11,9 +11,7 @@ use Rattle.dml_exec.specs.declared.code.Code.{Code}
 use Rattle.dml_exec.specs.declared.fault.CodeFault.{CodeFault}
 use Rattle.dml_exec.specs.declared.fault.CodeFault.TheVariants.{Bad, NoMemory}
 use Rattle.dml_exec.specs.declared.kinds.Kinds.{Kinds}
-use Rattle.dml_exec.specs.declared.kinds.ObjectKind.{ObjectKind}
 use Rattle.dml_exec.specs.declared.kinds.ObjectKind.TheVariants.{Dimension, Cells}
-use Rattle.dml_exec.specs.declared.op.Op.{Op}
 use Rattle.dml_exec.specs.declared.op.Op.TheVariants.{Local}
 use Rattle.dml_exec.specs.Free.{free_dimensions, is_among}
 use Rattle.dml_exec.specs.Meaning.{CodeInputs, slot_at, meaning}

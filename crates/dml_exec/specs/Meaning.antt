@@ -1,6 +1,6 @@
 -- What a run of code means: a fold over its ops on the cells of the stack, the last one first. `None` is a machine
 -- that is stuck: an op lacks an operand or has one that it can't take, names what isn't there, or jumps backwards or out.
-use Rattle.std.specs.Prelude.{ℕ, ◌+◌, ◌==◌, ◌&&◌, ◌∷◌, [], Bool as Truth, true, false, List, length, Option, Some, None, Result, Ok, Err, option_map, option_and_then, slice_get, nat_le, if◌then◌else◌}
+use Rattle.std.specs.Prelude.{ℕ, ◌+◌, ◌==◌, ◌∷◌, [], true, false, List, length, Option, Some, None, Result, Ok, Err, option_map, option_and_then, slice_get, nat_le, if◌then◌else◌}
 use Rattle.std.specs.List.{find}
 use Rattle.aw_cell.specs.declared.cell.Cell.{Cell}
 use Rattle.aw_cell.specs.declared.cell.Cell.TheVariants.{Na, Slot, Bool}

@@ -1,8 +1,8 @@
 -- What the operators make of cells, and of their kinds.
-use Rattle.std.specs.Prelude.{Bool as Truth, true, false, ◌&&◌, Option, Some, None, Result, Ok, Err}
+use Rattle.std.specs.Prelude.{Bool as Truth, true, false, ◌&&◌, Option, Some, None, Result, Ok}
 use Rattle.aw_cell.specs.declared.cell.Cell.{Cell}
 use Rattle.aw_cell.specs.declared.cell.Kind.{Kind}
-use Rattle.aw_cell.specs.declared.cell.Kind.TheVariants.{Num, Int, Text, Bool, Slot}
+use Rattle.aw_cell.specs.declared.cell.Kind.TheVariants.{Num, Int, Text, Bool}
 use Rattle.aw_cell.specs.declared.comparison.Order.{Order}
 use Rattle.aw_cell.specs.declared.comparison.Order.TheVariants.{Eq, Ne}
 use Rattle.aw_cell.specs.declared.number.Arith.{Arith}

@@ -1,13 +1,13 @@
 -- Which code is accepted. An op is reached with a list of kinds, that of the last cell first, where ops before it lead
 -- there. It is bad where it can't take such a list, or is reached with two different ones.
-use Rattle.std.specs.Prelude.{◌≡◌, ◌≢◌, ℕ, suc, zero, ◌+◌, ◌==◌, ◌<◌, ◌≤◌, ◌&&◌, ◌⊎◌, ◌∷◌, [], Bool as Truth, true, false, List, length, Option, Some, None, Result, Ok, Err, option_map, option_and_then, slice_get, nat_le, nat_lt, if◌then◌else◌}
+use Rattle.std.specs.Prelude.{◌≡◌, ◌≢◌, ℕ, suc, zero, ◌+◌, ◌==◌, ◌<◌, ◌&&◌, ◌⊎◌, ◌∷◌, [], Bool as Truth, true, false, List, length, Option, Some, None, option_map, slice_get, nat_le, nat_lt}
 use Rattle.std.specs.List.{list_all}
 use Rattle.aw_cell.specs.declared.cell.Kind.{Kind}
 use Rattle.aw_cell.specs.declared.cell.Kind.TheVariants.{Text as TextKind, Bool as BooleanKind, Slot as SlotKind}
 use Rattle.aw_page.specs.Fitting.{is_of_kind}
 use Rattle.dml_exec.specs.declared.kinds.Kinds.{Kinds}
 use Rattle.dml_exec.specs.declared.kinds.ObjectKind.{ObjectKind}
-use Rattle.dml_exec.specs.declared.kinds.ObjectKind.TheVariants.{Dimension, Cells, Other}
+use Rattle.dml_exec.specs.declared.kinds.ObjectKind.TheVariants.{Dimension, Cells}
 use Rattle.dml_exec.specs.declared.flow.Way.{Way}
 use Rattle.dml_exec.specs.declared.flow.Way.TheVariants.{Next, Leap, Fork}
 use Rattle.dml_exec.specs.declared.op.Axis.{Axis}

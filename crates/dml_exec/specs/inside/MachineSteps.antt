@@ -1,13 +1,12 @@
 -- What the steps of a run need, and where it stands.
-use Rattle.std.specs.Prelude.{◌≡◌, ℕ, ◌∷◌, [], ◌≤◌, List, length, drop, Option, Some, None, Result, Ok, Err, slice_get, IsTrue}
+use Rattle.std.specs.Prelude.{◌≡◌, ℕ, ◌∷◌, [], ◌≤◌, List, length, drop, Some, None, Result, Ok, Err, IsTrue}
 use Rattle.aw_cell.specs.declared.cell.Cell.{Cell}
 use Rattle.aw_cell.specs.declared.cell.Kind.{Kind}
 use Rattle.aw_cell.specs.declared.number.Arith.{Arith}
 use Rattle.aw_page.specs.Fitting.{is_of_kind}
 use Rattle.dml_exec.specs.declared.code.Code.{Code}
-use Rattle.dml_exec.specs.declared.op.Axis.{Axis}
 use Rattle.dml_exec.specs.declared.op.Op.{Op}
-use Rattle.dml_exec.specs.declared.op.Op.TheVariants.{Push, Local, Load, Name, NameOf, Add, Sub, Mul, Div, Neg, Abs, Min, Max, NaFill, Convert, Compare, And, Or, Not, Branch, Jump}
+use Rattle.dml_exec.specs.declared.op.Op.TheVariants.{Load, Name, NameOf}
 use Rattle.dml_exec.specs.Meaning.{CodeInputs, Standing, Outcome, going}
 use Rattle.dml_exec.specs.CodeRuns.{CanRun, rules_for}
 use Rattle.dml_exec.specs.Verified.{Reaches}

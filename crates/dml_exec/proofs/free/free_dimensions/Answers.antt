@@ -1,4 +1,4 @@
-use Rattle.std.proofs.Common.{◌≡◌, ◌∙◌, ℕ, ◌+◌, ◌<◌, List, ◌++◌, length, drop, sym, ap, arith}
+use Rattle.std.proofs.Common.{◌∙◌, ℕ, ◌+◌, ◌<◌, List, ◌++◌, length, drop, sym, ap, arith}
 use Rattle.std.proofs.lemmas.List.{at_drop_more}
 use Rattle.dml_exec.specs.declared.op.Op.{Op}
 use Rattle.dml_exec.specs.Free.{free_in, free_in_op, with_all}

@@ -1,10 +1,10 @@
-use Rattle.std.proofs.Common.{◌≡◌, ◌∙◌, ℕ, ◌+◌, ◌-◌, ◌<◌, ◌≤◌, List, [], ◌∷◌, length, Some, Ok, Err, refl, sym, ap, subst, arith}
+use Rattle.std.proofs.Common.{◌≡◌, ◌∙◌, ℕ, ◌-◌, ◌<◌, ◌≤◌, List, [], ◌∷◌, length, Some, Ok, Err, refl, sym, ap, subst, arith}
 use Rattle.std.specs.List.{slice_get}
 use Rattle.std.proofs.lemmas.Option.{slice_get_read}
 use Rattle.std.proofs.lemmas.Result.{err_from_is_err_and}
 use Rattle.aw_cell.specs.declared.cell.Cell.{Cell}
-use Rattle.dml_exec.specs.Meaning.{CodeInputs, code_inputs, turn, meaning}
-use Rattle.dml_exec.specs.inside.MachineSteps.{CanTurn, Stands, stood}
+use Rattle.dml_exec.specs.Meaning.{CodeInputs, code_inputs, turn}
+use Rattle.dml_exec.specs.inside.MachineSteps.{CanTurn, Stands}
 use Rattle.dml_exec.proofs.AllowedReads.{stands-asks}
 use Rattle.dml_exec.proofs.CodeSteps.{stands-first, stands-turns, stands-on, stands-refused, stands-ended}
 use Rattle.dml_exec.proofs.machine.run.Goals as goal

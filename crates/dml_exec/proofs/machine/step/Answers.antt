@@ -1,7 +1,7 @@
 use Rattle.std.proofs.Common.{◌≡◌, ◌∙◌, ℕ, ◌+◌, Some, sym, ap, subst, get_or}
 use Rattle.std.specs.List.{slice_get}
 use Rattle.dml_exec.specs.declared.op.Op.{Op}
-use Rattle.dml_exec.specs.declared.op.Op.TheVariants.{Local, Load}
+use Rattle.dml_exec.specs.declared.op.Op.TheVariants.{Load}
 use Rattle.dml_exec.specs.Meaning.{CodeInputs, code_inputs, turn, pushed, coordinate}
 use Rattle.dml_exec.specs.inside.MachineSteps.{CanTurn, MayTurn}
 use Rattle.dml_exec.proofs.AxisSlots.{coordinate-length, local-is}

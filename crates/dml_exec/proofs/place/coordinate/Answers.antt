@@ -1,4 +1,4 @@
-use Rattle.std.proofs.Common.{◌≡◌, ◌∙◌, ℕ, ◌<◌, ◌≤◌, [], length, take, Some, refl, sym, ap, arith, length-take-le}
+use Rattle.std.proofs.Common.{◌≡◌, ◌∙◌, ◌<◌, ◌≤◌, [], length, take, Some, refl, sym, ap, arith, length-take-le}
 use Rattle.std.proofs.Math.ListN.{length-set}
 use Rattle.dml_exec.specs.declared.op.Axis.TheVariants.{Free}
 use Rattle.dml_exec.proofs.AxisSlots.{behind-first, behind-more, placed, axis-placed, all-placed}

@@ -1,4 +1,4 @@
-use Rattle.std.proofs.Common.{◌≡◌, ℕ, ◌+◌, suc, List, length, true, refl, sym, subst, arith, add-one}
+use Rattle.std.proofs.Common.{◌≡◌, ℕ, List, length, true, refl, sym, subst, arith, add-one}
 use Rattle.aw_cell.specs.declared.cell.Kind.{Kind}
 use Rattle.dml_exec.specs.declared.survey.Survey.{Survey}
 use Rattle.dml_exec.specs.Verified.{Rules, rules_of}

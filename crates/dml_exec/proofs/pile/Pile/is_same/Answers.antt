@@ -1,4 +1,4 @@
-use Rattle.std.proofs.Common.{◌≡◌, ◌∙◌, sym, ap, reverse}
+use Rattle.std.proofs.Common.{◌∙◌, sym, ap, reverse}
 use Rattle.std.proofs.lemmas.Slice.Eq.{slice_eq-Decides}
 use Rattle.dml_exec.proofs.FreeDimensions.{kind-Decides, reversed-same}
 use Rattle.dml_exec.proofs.pile.Pile.is_same.Goals as goal

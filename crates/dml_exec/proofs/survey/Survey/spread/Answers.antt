@@ -1,4 +1,4 @@
-use Rattle.std.proofs.Common.{ℕ, ◌+◌, List, sym, subst}
+use Rattle.std.proofs.Common.{◌+◌, List, sym, subst}
 use Rattle.aw_cell.specs.declared.cell.Kind.{Kind}
 use Rattle.dml_exec.specs.declared.flow.Way.{Way}
 use Rattle.dml_exec.specs.inside.Arrivals.{Arrives, Spreads}
