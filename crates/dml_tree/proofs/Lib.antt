@@ -8,4 +8,6 @@ mod NumeralLength
 mod Numerals
 mod Quotes
 mod Symbols
+mod TokensFound
 mod WordTable
+pub mod callers

@@ -50,7 +50,7 @@ without_sign : (negative : Bool) (text unsigned : List ℕ) (count : ℕ) (units
 without_sign true text unsigned count units first form size value = let both : true ≡ false = sym first ∙ ap (begins_with is_ascii_digit) form in cc
 without_sign false text unsigned count units first form size value = record { count = count; size = subst (λ t. SpellsSize t count) (sym form) size; value = value }
 
-unsigned_numeral : (text : List ℕ) (units : ℤ) → begins_with is_ascii_digit text ≡ true → SpellsNumber text units → Unsigned text units
+pub unsigned_numeral : (text : List ℕ) (units : ℤ) → begins_with is_ascii_digit text ≡ true → SpellsNumber text units → Unsigned text units
 unsigned_numeral text units first s = without_sign s.negative text s.unsigned s.count units first s.form s.size s.value
 
 plain_number : (text : List ℕ) (count : ℕ) → SpellsSize text count → SpellsNumber text (pos count)

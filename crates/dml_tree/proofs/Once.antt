@@ -75,7 +75,7 @@ decimals_are text count s =
     let front = whole_front s.whole s.decimals text s.parts.whole_digits s.form in
     sym (drop-append_seam s.whole (pointed s.decimals)) ∙ ap (drop (length s.whole)) (sym s.form) ∙ ap (λ n. drop n text) (sym front)
 
-size_once : (text : List ℕ) (m n : ℕ) → SpellsSize text m → SpellsSize text n → m ≡ n
+pub size_once : (text : List ℕ) (m n : ℕ) → SpellsSize text m → SpellsSize text n → m ≡ n
 size_once text m n s t =
     let whole : s.whole ≡ t.whole = whole_is text m s ∙ sym (whole_is text n t) in
     let decimals : s.decimals ≡ t.decimals = pointed_once s.decimals t.decimals (decimals_are text m s ∙ sym (decimals_are text n t)) in

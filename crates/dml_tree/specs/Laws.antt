@@ -1,12 +1,14 @@
 -- Laws on the tokens of a line, over every line.
-use Rattle.std.specs.Prelude.{ℕ, ◌≡◌, ◌-◌, ◌≤◌, ◌<◌, ◌++◌, false, List, [], ◌∷◌, length, take, drop, IsTrue}
+use Rattle.std.specs.Prelude.{ℕ, ◌≡◌, ◌-◌, ◌≤◌, ◌<◌, ◌++◌, false, List, [], ◌∷◌, length, take, drop, IsTrue, Ok, Err}
 use Rattle.aw_cell.specs.Names.{is_name, has_name_form, same_word}
 use Rattle.dml_tree.specs.Words.{SpellsWord}
 use Rattle.dml_tree.specs.Spelling.{Spells}
 use Rattle.dml_tree.specs.LineTokens.{AreTokens, HasFault, end_token}
 use Rattle.dml_tree.specs.declared.word.Word.{Word}
 use Rattle.dml_tree.specs.declared.token.Lexeme.{Lexeme}
+use Rattle.dml_tree.specs.TokensIn.{TokensRead, tokens_in}
 use Rattle.dml_tree.specs.declared.token.Token.{Token}
+use Rattle.dml_tree.specs.declared.token.TokenFault.TheVariants.{Lexical, NoMemory}
 
 -- bytes spell one token at most; a line has one list of tokens at most, or one first fault, and not both
 pub record ReadOneWay : Type 0 where
@@ -35,3 +37,13 @@ StandInOrder = (line : List ℕ) (from : ℕ) (tokens : List Token) → AreToken
 pub record WordsAreReserved : Type 0 where
   pub no_name : (word : Word) (bytes : List ℕ) → SpellsWord word bytes → is_name bytes ≡ false
   pub any_case : (word : Word) (bytes other : List ℕ) → SpellsWord word bytes → IsTrue (has_name_form other) → IsTrue (same_word other bytes) → SpellsWord word other
+
+-- the tokens of a line from a place on, or its first fault
+abbrev pub IsReadSo : List ℕ → ℕ → TokensRead → Type 0
+IsReadSo line from (Ok tokens) = AreTokens line from tokens
+IsReadSo line from (Err (Lexical column)) = HasFault line from column
+IsReadSo line from (Err NoMemory) = ⊥
+
+-- each line, from each place in it, has one of the two, and this function gives it
+abbrev pub EachIsRead : Type 0
+EachIsRead = (line : List ℕ) (from : ℕ) → from ≤ length line → IsReadSo line from (tokens_in line from)

@@ -3,6 +3,7 @@ pub mod LineTokens
 pub mod Marks
 pub mod Sorts
 pub mod Spelling
+pub mod TokensIn
 pub mod Weight
 pub mod Words
 pub mod inside

@@ -1,6 +1,6 @@
 //! What holds of the tokens of every line.
 
-ghost use Rattle.dml_tree.specs.Laws.{ReadOneWay, StandInOrder, WordsAreReserved};
+ghost use Rattle.dml_tree.specs.Laws.{EachIsRead, ReadOneWay, StandInOrder, WordsAreReserved};
 
 /// Bytes spell one token at most. A line has one list of tokens at most, or one first fault, and not
 /// both. See docs/LANGUAGE.md, "Tokens".
@@ -18,4 +18,10 @@ pub fn tokens_stand_in_order()
 /// docs/LANGUAGE.md, "Names and words".
 pub fn words_are_reserved()
     ensures { WordsAreReserved }
+{}
+
+/// Each line has tokens from each place in it, or a first fault: so `tokens_in` gives what a line is
+/// read as. See docs/LANGUAGE.md, "Tokens".
+pub fn each_line_is_read()
+    ensures { EachIsRead }
 {}

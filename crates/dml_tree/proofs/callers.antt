@@ -1,0 +1,2 @@
+-- Lemmas that are offered to the crates above.
+pub mod Lines
