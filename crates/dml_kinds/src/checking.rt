@@ -78,7 +78,7 @@ fn found_formula(alloc: Global, scope: &Scope, expr: &Expr) -> Result<TypedExpr,
 
 /// As `check_expr`, for the expression of a formula, which has no locals: the type of `NA` alone doesn't
 /// fit (docs/LANGUAGE.md, "Definitions").
-#[tactic(auto, using(crate::proofs::Settling::settled_formula, crate::proofs::Settling::refused_formula))]
+#[tactic(auto, using(crate::proofs::ExpressionAnswers::settled_formula, crate::proofs::ExpressionAnswers::refused_formula))]
 pub fn check_formula(
     alloc: Global,
     expr: &Expr,
