@@ -76,9 +76,20 @@ fn found_formula(alloc: Global, scope: &Scope, expr: &Expr) -> Result<TypedExpr,
     }
 }
 
+/// What is answered of a formula's expression.
+#[tactic(auto, using(crate::proofs::ExpressionAnswers::settled_formula, crate::proofs::ExpressionAnswers::refused_formula))]
+fn formula_in(alloc: Global, scope: &Scope, expr: &Expr) -> Result<TypedExpr, TypeFault>
+    ensures { spec.IsAnswer result (spec.formula_answer (names_in scope.now.catalogue.now scope.now.known.now scope.now.locals.now) expr.now) }
+{
+    match refused_names(alloc, scope, expr) {
+        Ok(Some(fault)) => Err(fault),
+        Ok(None) => found_formula(alloc, scope, expr),
+        Err(_) => Err(TypeFault::NoMemory),
+    }
+}
+
 /// As `check_expr`, for the expression of a formula, which has no locals: the type of `NA` alone doesn't
 /// fit (docs/LANGUAGE.md, "Definitions").
-#[tactic(auto, using(crate::proofs::ExpressionAnswers::settled_formula, crate::proofs::ExpressionAnswers::refused_formula))]
 pub fn check_formula(
     alloc: Global,
     expr: &Expr,
@@ -93,11 +104,7 @@ pub fn check_formula(
         known,
         locals: &locals,
     };
-    match refused_names(alloc, &scope, expr) {
-        Ok(Some(fault)) => Err(fault),
-        Ok(None) => found_formula(alloc, &scope, expr),
-        Err(_) => Err(TypeFault::NoMemory),
-    }
+    formula_in(alloc, &scope, expr)
 }
 
 /// What is answered where no name is refused.
