@@ -1,1 +1,2 @@
 pub mod ExpressionAnswers
+mod Worked
