@@ -1,0 +1,9 @@
+pub mod FirstBest
+pub mod Granted
+pub mod Granting
+pub mod Mirrored
+pub mod SharesLaws
+pub mod Sizes
+pub mod Totals
+pub mod Within
+pub mod Worked
