@@ -22,15 +22,21 @@ writes the transcript, or writes what it holds.
 
 A refused line is answered by ERROR, a number and its detail:
 
-   1  a line of no form, an unknown name under a session, a 65th session
-      write the statement as docs/LANGUAGE.md has it; define names before the first session line
-   2  a name in the definition isn't defined
+   1  what stands at this column can't, or this statement doesn't run yet
+      write the statement as docs/LANGUAGE.md has it
+   2  the name isn't defined
       define it in a line before
-   3  an object in the definition is no dimension
-      name a dimension
-   7  the name is defined already, or the dimension comes twice
-      choose another name
-  14  more than 4,096 objects, 6 dimensions or 67,108,864 bytes of a commit's record
+   3  the object is of a kind that can't stand there
+      name one of the kind that the statement needs
+   4  the types don't fit
+      use values of types that go together
+   5  the dimensions don't fit
+      fix those that the target lacks
+   6  the dimension hasn't the value
+      name a value that it has
+   7  the name is defined already, or comes twice
+      choose another name, or write it once
+  14  more than 4,096 objects, 6 dimensions or 67,108,864 bytes of a commit's record; too long a formula
       define fewer, or update and commit fewer objects at once
   15  the session isn't attached
       begin with AW ATTACH MULTI
@@ -40,12 +46,20 @@ A refused line is answered by ERROR, a number and its detail:
       wait for its commit, or ask its owner, who is named
   18  the variable has a generation that is newer than the session's
       attach in a later run, and change the newer value
-  19  the session doesn't own the variable
+  19  the session doesn't own the object
       ACQUIRE it first
+  20  the session owns the object
+      RELEASE it first
   21  the definitions are written, and stay as they are
       define all objects before the first session line, on a new workspace
   22  the variable has the last generation number that there is
       define another variable on a new workspace
+  24  a line of a program begins with a word of session lines
+      leave the line out of the program
+  27  the line has more than 4,096 bytes, or a byte that no line has
+      shorten it, or leave the byte out
+  28  the script names a 65th session
+      use 64 names
   30  the disk failed in the commit, of which nothing is kept
       see to the disk, and COMMIT again
 

@@ -10,7 +10,7 @@ use Rattle.mv_view.specs.ViewState.{ObjectView, ViewState, object_of, kept_kinds
 use Rattle.ses_report.specs.declared.refusal.Refusal.{Refusal}
 use Rattle.ses_report.specs.Refusals.{owned_by}
 use Rattle.ses_step.specs.declared.answer.Answer.TheVariants.{Refused}
-use Rattle.ses_step.specs.declared.line.Command.TheVariants as command
+use Rattle.ses_step.specs.declared.command.Command.TheVariants as command
 use Rattle.ses_step.specs.declared.session.Begun.TheVariants.{Said, Ask}
 use Rattle.ses_step.specs.declared.session.Known.{Known as Session}
 use Rattle.ses_step.specs.Sessions.{generation_in, name_of, name_at}

@@ -1,110 +1,128 @@
--- What a line of a script assigns is an INTEGER.
-use Rattle.std.specs.Prelude.{◌≡◌, Bool, false, ◌&&◌, ◌+◌, ◌==◌, ℕ, ℤ, not, length, nat_le, true, List, [], ◌∷◌, drop, codes, pos, Option, Some, None, if◌then◌else◌, refl}
-use Rattle.std.specs.List.{prefix_len, list_all}
-use Rattle.std.specs.Str.Parse.{digits_value}
-use Rattle.std.specs.Option.{ForSome, option_map, option_and_then}
-use Rattle.std.proofs.Common.{subst, arith}
-use Rattle.std.proofs.lemmas.Bool.{and_parts, leb-true}
-use Rattle.std.proofs.lemmas.Option.{none-some, same_Some}
+-- What a session's line assigns is an INTEGER.
+use Rattle.std.specs.Prelude.{◌≡◌, Bool, true, false, cond, ◌==◌, ◌&&◌, ℕ, ℤ, pos, negsuc, nat_le, length, List, [], ◌∷◌, Option, Some, None, Result, Ok, Err, refl}
+use Rattle.std.specs.Option.{option_map}
+use Rattle.std.proofs.Common.{arith}
+use Rattle.std.proofs.lemmas.Bool.{leb-true}
 use Rattle.aw_cell.specs.declared.cell.Cell.TheVariants.{Int}
 use Rattle.aw_codec.specs.Records.{IsSpelled}
-use Rattle.ses_step.specs.declared.line.Line.{Line}
-use Rattle.ses_step.specs.declared.line.Line.TheVariants as line
-use Rattle.ses_step.specs.declared.line.Command.{Command}
-use Rattle.ses_step.specs.declared.line.Command.TheVariants as command
-use Rattle.aw_cell.specs.Names.{same_word, is_digit, is_word_byte}
-use Rattle.ses_step.specs.DefinitionLines.{is_definition_line, pieces, definition_in}
-use Rattle.ses_step.specs.Words.{before_comment, words}
-use Rattle.ses_step.specs.Lines.{keeps_form, after_blanks, is_passed_over, name_in, integer_in, one_word, two_words, assignment, three_words, command_in, has_prefix, session_line, definition_line, line_in, line_form}
-use Rattle.script_world.proofs.callers.Moves.{if-holds}
+use Rattle.aw_schema.specs.declared.definition.Def.{Def}
+use Rattle.dml_tree.specs.declared.expr.Expr.{Expr, out-Expr}
+use Rattle.dml_tree.specs.declared.expr.Expr.TheOpen.{Expr-F}
+use Rattle.dml_tree.specs.declared.statement.Mode.TheVariants as mode
+use Rattle.dml_tree.specs.declared.statement.Statement.{Statement}
+use Rattle.dml_tree.specs.declared.statement.Statement.TheVariants as statement
+use Rattle.dml_grammar.specs.declared.fault.ParseFault.{ParseFault}
+use Rattle.dml_lines.specs.Lines.{statement_in}
+use Rattle.ses_report.specs.declared.refusal.Refusal.{Refusal}
+use Rattle.ses_step.specs.declared.command.Asked.{Asked}
+use Rattle.ses_step.specs.declared.command.Asked.TheVariants.{Runs, Refused}
+use Rattle.ses_step.specs.declared.command.Command.{Command}
+use Rattle.ses_step.specs.declared.command.Command.TheVariants as command
+use Rattle.ses_step.specs.declared.session.Known.{Known as Session}
+use Rattle.ses_step.specs.Commands.{name_alone, name_in, without_sign, integer_in, acquire_of, update_of, assignment_of, command_of}
+use Rattle.ses_step.specs.Refusing.{statement_refusal}
+use Rattle.ses_step.specs.SessionLines.{runs, asked_unless, asked_by, asked}
 
 -- an INTEGER that a record can hold
 abbrev pub AssignsInteger : Command → Type 0
 AssignsInteger (command.Assign name value) = IsSpelled (Int value)
 AssignsInteger _ = Unit {0}
 
--- what a line assigns is one
-abbrev pub HasInteger : Line → Type 0
-HasInteger (line.Session name command) = ForSome command AssignsInteger
-HasInteger (line.Definition found) = Unit {0}
-HasInteger line.Blank = Unit {0}
-HasInteger line.Malformed = Unit {0}
+abbrev MayAssign : Option Command → Type 0
+MayAssign None = Unit {0}
+MayAssign (Some own) = AssignsInteger own
 
-abbrev IntegerIn : Option Command → Type 0
-IntegerIn command = ForSome command AssignsInteger
+abbrev MayBe : Option ℤ → Type 0
+MayBe None = Unit {0}
+MayBe (Some value) = IsSpelled (Int value)
 
-none-integer : IntegerIn None
-none-integer command is = absurd (none-some command is)
-
-some-integer : (command : Command) → AssignsInteger command → IntegerIn (Some command)
-some-integer command value other is = subst AssignsInteger (same_Some command other is) value
-
-one_word-integer : (a : List ℕ) → IntegerIn (one_word a)
-one_word-integer a =
-    if-holds IntegerIn (same_word a (codes "UPDATE")) (Some command.Update) (if same_word a (codes "COMMIT") then Some command.Commit else None) (some-integer command.Update tt)
-    (if-holds IntegerIn (same_word a (codes "COMMIT")) (Some command.Commit) None (some-integer command.Commit tt) none-integer)
-
-named-integer : (make : List ℕ → Command) → ((name : List ℕ) → AssignsInteger (make name)) → (name : Option (List ℕ)) → IntegerIn (option_map make name)
-named-integer make value None = none-integer
-named-integer make value (Some name) = some-integer (make name) (value name)
-
-two_words-integer : (a b : List ℕ) → IntegerIn (two_words a b)
-two_words-integer a b =
-    if-holds IntegerIn (same_word a (codes "ACQUIRE")) (option_map command.Acquire (name_in b)) (if same_word a (codes "SHOW") then option_map command.Show (name_in b) else None) (named-integer command.Acquire (λ name. tt) (name_in b))
-    (if-holds IntegerIn (same_word a (codes "SHOW")) (option_map command.Show (name_in b)) None (named-integer command.Show (λ name. tt) (name_in b)) none-integer)
-
-integer_in-fits : (word : List ℕ) → ForSome (integer_in word) (λ value. IsSpelled (Int value))
-integer_in-fits word = by_test (is_number) refl
+unsigned-fits : (value : ℤ) → MayBe (without_sign value)
+unsigned-fits (negsuc whole) = tt
+unsigned-fits (pos whole) = by (nat_le whole 2147483647) refl
   where
-    value : ℕ
-    value = digits_value 10 word
+    by : (small : Bool) → nat_le whole 2147483647 ≡ small → MayBe (cond small (Some (pos whole)) None)
+    by true is = (record { sfits = omega (arith, leb-true whole 2147483647 is) }, λ same. cc)
+    by false is = tt
 
-    is_number : Bool
-    is_number = not (length word == 0) && list_all is_digit word && nat_le value 2147483647
+level-fits : (level : Expr-F Expr) → MayBe (elim level [ Expr-F.Integer whole ↦ without_sign whole | _ ↦ None ])
+level-fits (Expr-F.Integer whole) = unsigned-fits whole
+level-fits Expr-F.Na = tt
+level-fits (Expr-F.Number number) = tt
+level-fits (Expr-F.Text text) = tt
+level-fits (Expr-F.Truth truth) = tt
+level-fits (Expr-F.Object target) = tt
+level-fits (Expr-F.Grouped inner) = tt
+level-fits (Expr-F.Not operand) = tt
+level-fits (Expr-F.Negative operand) = tt
+level-fits (Expr-F.Abs operand) = tt
+level-fits (Expr-F.Joined joint left right) = tt
+level-fits (Expr-F.If condition first second) = tt
 
-    fits : nat_le value 2147483647 ≡ true → IsSpelled (Int (pos value))
-    fits small = (record { sfits = omega (arith, leb-true value 2147483647 small) }, λ same. cc)
+assignment-fits : (target : Option (List ℕ)) (value : Option ℤ) → MayBe value → MayAssign (assignment_of target value)
+assignment-fits None value fits = tt
+assignment-fits (Some name) None fits = tt
+assignment-fits (Some name) (Some value) fits = fits
 
-    by_test : (test : Bool) → is_number ≡ test → ForSome (if test then Some (pos value) else None) (λ value. IsSpelled (Int value))
-    by_test false is = λ found same. absurd (none-some found same)
-    by_test true is = λ found same.
-        subst (λ value. IsSpelled (Int value)) (same_Some (pos value) found same) (fits (and_parts (not (length word == 0) && list_all is_digit word) (nat_le value 2147483647) is).1)
-
-assignment-integer : (a c : List ℕ) → IntegerIn (assignment a c)
-assignment-integer a c = by_name (name_in a)
+acquire-fits : (keep fresh same : List (List ℕ)) → MayAssign (acquire_of keep fresh same)
+acquire-fits [] fresh same = tt
+acquire-fits (name ∷ []) fresh same = by (length fresh == 0 && length same == 0)
   where
-    by_value : (name : List ℕ) (value : Option ℤ) → ForSome value (λ value. IsSpelled (Int value)) → IntegerIn (option_map (command.Assign name) value)
-    by_value name None fits = none-integer
-    by_value name (Some value) fits = some-integer (command.Assign name value) (fits value refl)
+    by : (alone : Bool) → MayAssign (cond alone (Some (command.Acquire name)) None)
+    by true = tt
+    by false = tt
+acquire-fits (name ∷ other ∷ names) fresh same = tt
 
-    by_name : (name : Option (List ℕ)) → IntegerIn (option_and_then (λ name. option_map (command.Assign name) (integer_in c)) name)
-    by_name None = none-integer
-    by_name (Some name) = by_value name (integer_in c) (integer_in-fits c)
-
-three_words-integer : (a b c : List ℕ) → IntegerIn (three_words a b c)
-three_words-integer a b c =
-    if-holds IntegerIn (same_word b (codes "=")) (assignment a c) attach (assignment-integer a c)
-    (if-holds IntegerIn (same_word a (codes "AW") && same_word b (codes "ATTACH") && same_word c (codes "MULTI")) (Some command.Attach) None (some-integer command.Attach tt) none-integer)
+update-fits : (names : List (List ℕ)) → MayAssign (update_of names)
+update-fits [] = tt
+update-fits (name ∷ names) = by (length (name ∷ names) == 0)
   where
-    attach : Option Command
-    attach = if same_word a (codes "AW") && same_word b (codes "ATTACH") && same_word c (codes "MULTI") then Some command.Attach else None
+    by : (none : Bool) → MayAssign (cond none (Some command.Update) None)
+    by true = tt
+    by false = tt
 
-command_in-integer : (words : List (List ℕ)) → IntegerIn (command_in words)
-command_in-integer [] = none-integer
-command_in-integer (a ∷ []) = one_word-integer a
-command_in-integer (a ∷ b ∷ []) = two_words-integer a b
-command_in-integer (a ∷ b ∷ c ∷ []) = three_words-integer a b c
-command_in-integer (a ∷ b ∷ c ∷ d ∷ words) = none-integer
+show-fits : (name : Option (List ℕ)) → MayAssign (option_map command.Show name)
+show-fits None = tt
+show-fits (Some name) = tt
 
-session_line-integer : (text : List ℕ) → HasInteger (session_line text)
-session_line-integer text = command_in-integer (words (before_comment (drop (prefix_len is_word_byte text + 1) text)))
+command-fits : (s : Statement) → MayAssign (command_of s)
+command-fits (statement.Attach mode.Multi) = tt
+command-fits (statement.Attach mode.ReadOnly) = tt
+command-fits statement.Detach = tt
+command-fits statement.Commit = tt
+command-fits (statement.Acquire keep fresh same) = acquire-fits keep fresh same
+command-fits (statement.Resync names) = tt
+command-fits (statement.Release names) = tt
+command-fits (statement.Revert names) = tt
+command-fits (statement.Update names) = update-fits names
+command-fits (statement.Add dimension values place) = tt
+command-fits (statement.Delete dimension values) = tt
+command-fits (statement.Move dimension values place) = tt
+command-fits (statement.Rename dimension was text) = tt
+command-fits (statement.Assign target e) = assignment-fits (name_alone target) (integer_in e) (level-fits (out-Expr e))
+command-fits (statement.Show e) = show-fits (name_in e)
+command-fits (statement.Report e) = tt
+command-fits (statement.Limit name how what) = tt
+command-fits (statement.Aggregate name map) = tt
+command-fits (statement.Allocate source basis target map) = tt
+command-fits (statement.Call program arguments) = tt
 
-pub line_form-integer : (l : List ℕ) → HasInteger (line_form l)
-line_form-integer l =
-    let text = after_blanks l in
-    let read = if has_prefix text then session_line text else definition_line text in
-    if-holds HasInteger (keeps_form l) (line_in text) line.Malformed
-    (if-holds HasInteger (is_passed_over text) line.Blank read tt
-    (if-holds HasInteger (has_prefix text) (session_line text) (definition_line text) (session_line-integer text)
-    (if-holds HasInteger (is_definition_line text) (line.Definition (definition_in (pieces (before_comment text)))) line.Malformed tt tt)))
-    tt
+-- ---- a line
+
+abbrev pub AskedInteger : Asked → Type 0
+AskedInteger (Runs own) = AssignsInteger own
+AskedInteger (Refused refusal) = Unit {0}
+
+runs-fits : (own : Option Command) → MayAssign own → AskedInteger (runs own)
+runs-fits None fits = tt
+runs-fits (Some own) fits = fits
+
+unless-fits : (refusal : Option Refusal) (s : Statement) → AskedInteger (asked_unless refusal s)
+unless-fits None s = runs-fits (command_of s) (command-fits s)
+unless-fits (Some refusal) s = tt
+
+pub asked-fits : (definitions : List Def) (s : Session) (line : List ℕ) (from : ℕ) → AskedInteger (asked definitions s line from)
+asked-fits definitions s line from = by (statement_in line from)
+  where
+    by : (read : Result Statement ParseFault) → AskedInteger (asked_by definitions s read)
+    by (Err fault) = tt
+    by (Ok one) = unless-fits (statement_refusal definitions s one) one

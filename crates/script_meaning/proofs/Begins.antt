@@ -12,8 +12,8 @@ use Rattle.mv_view.specs.ViewState.{ObjectView, ViewState, object_of, owned_obje
 use Rattle.ses_report.specs.declared.refusal.Refusal.{Refusal}
 use Rattle.ses_report.specs.Refusals.{no_form, not_attached, already_attached}
 use Rattle.ses_step.specs.declared.answer.Answer.TheVariants.{Done, Shown, Refused}
-use Rattle.ses_step.specs.declared.line.Command.{Command}
-use Rattle.ses_step.specs.declared.line.Command.TheVariants as command
+use Rattle.ses_step.specs.declared.command.Command.{Command}
+use Rattle.ses_step.specs.declared.command.Command.TheVariants as command
 use Rattle.ses_step.specs.declared.session.Begun.{Begun}
 use Rattle.ses_step.specs.declared.session.Begun.TheVariants.{Said, Ask}
 use Rattle.ses_step.specs.declared.session.Known.{Known as Session}
@@ -88,9 +88,6 @@ located_of s place = elim place [ None ↦ Err no_form | Some object ↦ located
 
 pub located-defined : (definitions : List Def) (s : Session) (name : List ℕ) (object : ℕ) → definition.object_of definitions name ≡ Some object → located definitions s name ≡ located_at object s.view
 located-defined definitions s name object place = ap (located_of s) place
-
-pub located-undefined : (definitions : List Def) (s : Session) (name : List ℕ) → definition.object_of definitions name ≡ None → located definitions s name ≡ Err no_form
-located-undefined definitions s name place = ap (located_of s) place
 
 pub located-seen : (definitions : List Def) (s : Session) (name : List ℕ) (object : ℕ) → definition.object_of definitions name ≡ Some object → Sees s object → located definitions s name ≡ Ok object
 located-seen definitions s name object place it =

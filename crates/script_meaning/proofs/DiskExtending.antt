@@ -9,7 +9,7 @@ use Rattle.mv_core.specs.declared.entry.Entry.TheVariants as entry
 use Rattle.mv_core.specs.Workspace.{Workspace}
 use Rattle.mv_view.specs.ViewState.{ViewState}
 use Rattle.ses_step.specs.declared.answer.Answer.TheVariants.{Done, Refused}
-use Rattle.ses_step.specs.declared.line.Command.TheVariants as command
+use Rattle.ses_step.specs.declared.command.Command.TheVariants as command
 use Rattle.ses_step.specs.declared.session.Begun.{Begun}
 use Rattle.ses_step.specs.declared.session.Begun.TheVariants.{Said, Ask}
 use Rattle.ses_step.specs.declared.session.Known.{Known as Session}

@@ -10,7 +10,7 @@ use Rattle.mv_core.specs.declared.entry.Reply.{Reply}
 use Rattle.mv_core.specs.SharedStep.{writes}
 use Rattle.aw_store.specs.Stores.{record_of}
 use Rattle.ses_step.specs.declared.answer.Answer.TheVariants.{Refused}
-use Rattle.ses_step.specs.declared.line.Command.{Command}
+use Rattle.ses_step.specs.declared.command.Command.{Command}
 use Rattle.ses_step.specs.declared.session.Begun.{Begun}
 use Rattle.ses_step.specs.declared.session.Begun.TheVariants.{Said, Ask}
 use Rattle.ses_step.specs.declared.session.Known.{Known as Session}

@@ -26,7 +26,7 @@ use Rattle.aw_codec.specs.declared.record.Decoded.TheVariants.{Definitions, Comm
 use Rattle.aw_codec.specs.Records.{IsDefinition, IsSpelled, IsKeyedCell}
 use Rattle.mv_core.specs.Workspace as core
 use Rattle.mv_core.specs.Workspace.{Workspace}
-use Rattle.aw_store.specs.StoredRecords.{are_replayed, are_accepted_after, are_commits_after, definitions_of, commits_of, workspace_of, stood_by, CanBeOpened}
+use Rattle.aw_store.specs.StoredRecords.{are_replayed, are_accepted_after, are_commits_after, definitions_of, workspace_of, stood_by, CanBeOpened}
 use Rattle.script_meaning.specs.Dump.{IsSmall, IsCellTold, IsBodyTold, IsDumpable, AreDumpable, dumped, RecordsTell}
 use Rattle.script_meaning.specs.Fit.{CanBeWritten, IsKeptOf}
 use Rattle.script_meaning.proofs.Dumping.{dump_tells}

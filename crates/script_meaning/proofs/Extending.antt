@@ -29,7 +29,7 @@ use Rattle.mv_view.specs.Each.{object_in}
 use Rattle.ses_report.specs.Refusals.{not_attached, full}
 use Rattle.ses_step.specs.declared.answer.Answer.{Answer}
 use Rattle.ses_step.specs.declared.answer.Answer.TheVariants.{Done, Refused}
-use Rattle.ses_step.specs.declared.line.Command.TheVariants as command
+use Rattle.ses_step.specs.declared.command.Command.TheVariants as command
 use Rattle.ses_step.specs.declared.session.Begun.TheVariants.{Said, Ask}
 use Rattle.ses_step.specs.declared.session.Known.{Known as Session}
 use Rattle.ses_step.specs.Answers.{is_refusal}

@@ -30,28 +30,25 @@ use Rattle.mv_view.specs.Laws.{CanRise, grown}
 use Rattle.mv_view.specs.Rules as rule
 use Rattle.mv_view.specs.ViewState.{ObjectView, ViewState, object_of, owned_objects, kept_kinds}
 use Rattle.ses_report.specs.declared.refusal.Refusal.{Refusal}
-use Rattle.ses_step.specs.declared.definition.Definition.{Definition}
-use Rattle.ses_step.specs.declared.line.Command.{Command}
-use Rattle.ses_step.specs.declared.line.Command.TheVariants as command
-use Rattle.ses_step.specs.declared.line.Line.{Line}
-use Rattle.ses_step.specs.declared.line.Line.TheVariants as line
+use Rattle.ses_step.specs.declared.command.Command.TheVariants as command
+use Rattle.ses_step.specs.declared.command.Asked.{Asked}
+use Rattle.ses_step.specs.declared.command.Asked.TheVariants.{Runs, Refused}
 use Rattle.ses_step.specs.declared.session.Known.{Known as Session}
-use Rattle.ses_step.specs.Lines.{line_form}
+use Rattle.ses_step.specs.SessionLines.{asked}
 use Rattle.ses_step.specs.Sessions.{finished, with_cell}
 use Rattle.script_world.specs.Meaning as world
 use Rattle.script_world.specs.Outcomes.{Outcome}
 use Rattle.script_world.proofs.callers.Fits.{Lawful}
 use Rattle.script_world.proofs.callers.DiskFits.{FaultsKeep}
-use Rattle.script_meaning.specs.Defining.{IsFormed, define_refusal, accepted_by}
 use Rattle.script_meaning.specs.Fit.{AreDefinable, ViewFits, SessionFits}
-use Rattle.script_meaning.specs.Language.{language, store_writing, Waiting, begun_of, begin, finish, form_of, defined_by, define, bytes_of, is_cut_off, kept_step, history_machine}
-use Rattle.script_meaning.proofs.AssignedIntegers.{AssignsInteger, HasInteger, line_form-integer}
+use Rattle.script_meaning.specs.DefinitionLines.{define}
+use Rattle.script_meaning.specs.Language.{language, store_writing, Written, Waiting, begun_of, begin_asked, begin, finish, bytes_of, is_cut_off, kept_step, history_machine}
+use Rattle.script_meaning.proofs.AssignedIntegers.{AssignsInteger, AskedInteger, asked-fits}
 use Rattle.script_meaning.proofs.Begins.{AskedOf, AsksAttach, AsksAcquire, AsksCommit, acquiring, begins, Assigns}
 use Rattle.script_meaning.proofs.CutOff.{cut_off-cases}
-use Rattle.script_meaning.proofs.callers.Defining.{definable-push}
+use Rattle.script_meaning.proofs.callers.Defining.{defined-definable}
 use Rattle.script_meaning.proofs.Fitting.{one_cell, single-kind}
 use Rattle.script_meaning.proofs.FittingViews.{view-written, view-updated, view-acquired, view-committed, view-attached, view-foreign_granted, view-foreign_committed, taken-other, given, owner_of-none_given}
-use Rattle.script_meaning.proofs.callers.LineDefinitions.{line_form-formed}
 use Rattle.script_meaning.proofs.KeptKinds.{if-some, each-some, seen-kept}
 use Rattle.script_meaning.proofs.Replies.{MayGrant, acquire-cases, commit-cases, kept-stands, number-small}
 use Rattle.script_meaning.proofs.StoredBodies.{KeptBodies, first-kept, committed-kept, found-all}
@@ -71,9 +68,9 @@ pub record Fits (d : List Def) (shared : Workspace) (who : ℕ) (s : Session) : 
   pub session : SessionFits shared who s
   pub owns : s.view ≡ None → (object : ℕ) → owner_of shared.owners object ≢ Some who
 
-abbrev pub Spoken : Option Command → Type 0
-Spoken None = Unit {0}
-Spoken (Some command) = AssignsInteger command
+-- each line of a session does
+abbrev pub Spoken : Written → Type 0
+Spoken written = Unit {0}
 
 -- ---- what a session asks
 
@@ -82,12 +79,15 @@ abbrev Asks : Session → world.Begun Entry Session Waiting → Type 0
 Asks s (world.said answer after) = Unit {0}
 Asks s (world.ask it waiting) = (waiting ≡ (s, it)) × AskedOf s it
 
-asks : (d : List Def) (s : Session) (statement : Option Command) → Asks s (begin d s statement)
-asks d s None = tt
-asks d s (Some own) =
+asks_as : (d : List Def) (s : Session) (a : Asked) → Asks s (begin_asked d s a)
+asks_as d s (Refused refusal) = tt
+asks_as d s (Runs own) =
     begins d s own (λ b. Asks s (begun_of b)) (λ refusal own. tt) (λ it asked. (refl, asked)) tt (λ name value object assigned. tt) (λ view is attached. tt) (λ name object shown. tt)
 
-pub asked_so : (d : List Def) (s : Session) (statement : Option Command) (it : Entry) (waiting : Waiting) → begin d s statement ≡ world.ask it waiting → (waiting ≡ (s, it)) × AskedOf s it
+asks : (d : List Def) (s : Session) (written : Written) → Asks s (begin d s written)
+asks d s written = asks_as d s (asked d s written.line written.from)
+
+pub asked_so : (d : List Def) (s : Session) (statement : Written) (it : Entry) (waiting : Waiting) → begin d s statement ≡ world.ask it waiting → (waiting ≡ (s, it)) × AskedOf s it
 asked_so d s statement it waiting is = subst (Asks s) is (asks d s statement)
 
 -- a session that answers alone fits
@@ -107,9 +107,9 @@ module _ (d : List Def) (names : List (List ℕ)) (shared : Workspace) (count : 
     owns = λ none. absurd (none-some view (sym none));
   }
 
-  begins_fit : (statement : Option Command) → Spoken statement → FitsAfter d shared s.who (begin d s statement)
-  begins_fit None spoken = fits
-  begins_fit (Some own) spoken =
+  begins_fit : (a : Asked) → AskedInteger a → FitsAfter d shared s.who (begin_asked d s a)
+  begins_fit (Refused refusal) spoken = fits
+  begins_fit (Runs own) spoken =
       begins d s own (λ b. FitsAfter d shared s.who (begun_of b)) (λ refusal its. fits) (λ it asked. tt) fits assigned moved (λ name object shown. fits)
     where
       assigned : (name : List ℕ) (value : ℤ) (object : ℕ) → Assigns d s own name value object → Fits d shared s.who (with_cell s object (Int value))
@@ -298,20 +298,11 @@ ResultDefined records (Ok d) = Defined records d
 ResultDefined records (Err refusal) = Unit {0}
 
 define_defined : (records : List Decoded) (d : List Def) (lines : List (List ℕ)) → Defined records d → ResultDefined records (define d lines)
-define_defined records d [] it = tt
-define_defined records d (text ∷ texts) it = by_line (line_form text) refl
+define_defined records d lines it = by (define d lines) refl
   where
-    by_refusal : (definition : Definition) → IsFormed definition → (found : Option Refusal) → define_refusal d definition ≡ found → ResultDefined records (accepted_by d definition found)
-    by_refusal definition formed None none = (definable-push d definition it.0 formed none, it.1)
-    by_refusal definition formed (Some refusal) is = tt
-
-    by_line : (l : Line) → line_form text ≡ l → ResultDefined records (defined_by d l)
-    by_line (line.Definition (Some definition)) is =
-        by_refusal definition (line_form-formed text definition is) (define_refusal d definition) refl
-    by_line (line.Definition None) is = tt
-    by_line line.Blank is = tt
-    by_line line.Malformed is = tt
-    by_line (line.Session name command) is = tt
+    by : (result : Result (List Def) Refusal) → define d lines ≡ result → ResultDefined records result
+    by (Ok after) is = (defined-definable d lines after is it.0, it.1)
+    by (Err refusal) is = tt
 
 -- by the session's own number
 at_number : (d : List Def) (shared : Workspace) (who : ℕ) (s : Session) → Fits d shared who s → Fits d shared s.who s
@@ -321,9 +312,9 @@ module _ (d : List Def) (names : List (List ℕ)) (shared : Workspace) (count wh
   few_own : s.who < count
   few_own = subst (λ (at : ℕ). at < count) (sym fits.session.number) few
 
-  begun_fits : (statement : Option Command) → Spoken statement → FitsAfter d shared who (begin d s statement)
-  begun_fits statement spoken =
-      subst (λ (at : ℕ). FitsAfter d shared at (begin d s statement)) fits.session.number (begins_fit d names shared count s few_own sound (at_number d shared who s fits) statement spoken)
+  begun_fits : (written : Written) → FitsAfter d shared who (begin d s written)
+  begun_fits written =
+      subst (λ (at : ℕ). FitsAfter d shared at (begin d s written)) fits.session.number (begins_fit d names shared count s few_own sound (at_number d shared who s fits) (asked d s written.line written.from) (asked-fits d s written.line written.from))
 
   after_kept : (asked : Entry) → AskedOf s asked → Kept d names shared count s few_own sound (at_number d shared who s fits) asked (kept_step shared asked)
   after_kept asked known = kept_so d names shared count s few_own sound (at_number d shared who s fits) asked known
@@ -337,7 +328,7 @@ language_lawful records = record {
     session = record { number = refl; view = λ view is. absurd (none-some view is) };
     owns = λ none object owned. let it = sound.owners object count owned in omega (arith, it.1);
   };
-  begins = λ d shared count who s statement answer after spoken few sound fits is. subst (FitsAfter d shared who) is (begun_fits d [] shared count who s few sound fits statement spoken);
+  begins = λ d shared count who s statement answer after spoken few sound fits is. subst (FitsAfter d shared who) is (begun_fits d [] shared count who s few sound fits statement);
   steps = λ d shared count who s statement it waiting spoken few sound fits is. (after_kept d [] shared count who s few sound fits it (asked_so d s statement it waiting is).1).all;
   own = λ d names shared count who s statement it waiting spoken few sound fits is.
       let asked = asked_so d s statement it waiting is in
@@ -354,16 +345,5 @@ faults_keep next records d names shared who s statement it waiting spoken fits i
 
 -- ---- statements that a line can have
 
-abbrev FormSpoken : world.Form (Option Command) → Type 0
-FormSpoken (world.under name statement) = Spoken statement
-FormSpoken _ = Unit {0}
-
-form_spoken : (l : Line) → HasInteger l → FormSpoken (form_of l)
-form_spoken line.Blank it = tt
-form_spoken line.Malformed it = tt
-form_spoken (line.Definition found) it = tt
-form_spoken (line.Session name None) it = tt
-form_spoken (line.Session name (Some command)) it = it command refl
-
-pub lines_spoken : (lines : List (List ℕ)) (text name : List ℕ) (statement : Option Command) → language.form lines text ≡ world.under name statement → Spoken statement
-lines_spoken lines text name statement is = subst FormSpoken is (form_spoken (line_form text) (line_form-integer text))
+pub lines_spoken : (lines : List (List ℕ)) (text name : List ℕ) (statement : Written) → language.form lines text ≡ world.under name statement → Spoken statement
+lines_spoken lines text name statement is = tt

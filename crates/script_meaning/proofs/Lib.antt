@@ -1,4 +1,5 @@
 pub mod AssignedIntegers
+pub mod DefinedTrees
 pub mod Begins
 pub mod CutOff
 pub mod DefinitionCauses
@@ -16,7 +17,6 @@ pub mod DiskTurns
 pub mod TurnCases
 pub mod Extending
 pub mod DiskExtending
-pub mod Worked
 pub mod WorkedDumps
 pub mod Dumping
 pub mod DumpedRecords
@@ -25,8 +25,7 @@ pub mod SnapshotReads
 pub mod SnapshotReadsOfRuns
 pub mod RefusedLines
 pub mod ReachableWorlds
-pub mod OneLineDefinitions
 pub mod OneLineAnswers
 pub mod FittingSessions
-pub mod CommandAnswers
+pub mod LineAnswers
 pub mod AcquireAnswers

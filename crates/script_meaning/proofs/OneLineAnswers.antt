@@ -1,5 +1,5 @@
 -- What a session's line is answered is one line, and a commit that was done is answered otherwise than one that met a fault.
-use Rattle.std.specs.Prelude.{◌≡◌, ◌≢◌, ◌++◌, ℕ, Bool, true, false, List, [], ◌∷◌, codes, Option, Some, None, IsSome, if◌then◌else◌, refl}
+use Rattle.std.specs.Prelude.{◌≡◌, ◌≢◌, ◌++◌, ℕ, Bool, true, false, List, [], ◌∷◌, codes, Some, None, IsSome, if◌then◌else◌, refl}
 use Rattle.std.proofs.Common.{◌∙◌, ap, sym, subst, arith, append_assoc, append-nil}
 use Rattle.std.proofs.lemmas.Bool.{true≢false}
 use Rattle.std.proofs.lemmas.List.{append_cancel_left}
@@ -14,11 +14,13 @@ use Rattle.ses_report.specs.Refusals.{disk_fault}
 use Rattle.ses_report.specs.Reports.{prefix_text, line_under, answer_text, refusal_text}
 use Rattle.ses_step.specs.declared.answer.Answer.{Answer}
 use Rattle.ses_step.specs.declared.answer.Answer.TheVariants.{Done, Shown, Refused}
-use Rattle.ses_step.specs.declared.line.Command.{Command}
+use Rattle.ses_step.specs.declared.command.Asked.{Asked}
+use Rattle.ses_step.specs.declared.command.Asked.TheVariants as asks
 use Rattle.ses_step.specs.declared.session.Begun.{Begun}
 use Rattle.ses_step.specs.declared.session.Begun.TheVariants.{Said, Ask}
 use Rattle.ses_step.specs.declared.session.Known.{Known as Session}
 use Rattle.ses_step.specs.Answers.{answer_of}
+use Rattle.ses_step.specs.SessionLines.{asked}
 use Rattle.ses_step.specs.Sessions.{begun, finished}
 use Rattle.script_world.specs.Laws.{lines_in, TextFixesWorld}
 use Rattle.script_world.specs.Meaning as world
@@ -26,8 +28,8 @@ use Rattle.script_world.specs.Outcomes.{Outcome, among}
 use Rattle.script_world.specs.Worlds.{Event}
 use Rattle.script_world.proofs.callers.NoSession.{Speaks}
 use Rattle.script_world.proofs.callers.Fixing.{TellsApart, text_fixes_world}
-use Rattle.script_meaning.specs.CommandAnswers.{IsOneLine}
-use Rattle.script_meaning.specs.Language.{store_writing, history_machine, Waiting, begun_of, begin, finish, by_history}
+use Rattle.script_meaning.specs.LineAnswers.{IsOneLine}
+use Rattle.script_meaning.specs.Language.{store_writing, history_machine, Waiting, begun_of, begin_asked, finish, by_history}
 use Rattle.script_meaning.specs.Transcript.{opening}
 use Rattle.script_meaning.proofs.Records.{writing-grants}
 
@@ -44,13 +46,13 @@ one-begun : (first : Begun) (session : Session) → OneLineOf (begun_of (first, 
 one-begun (Said answer) session = one-line answer
 one-begun (Ask asked) session = tt
 
-one-statement : (d : List Def) (s : Session) (statement : Option Command) → OneLineOf (begin d s statement)
-one-statement d s None = refl
-one-statement d s (Some own) = one-begun (begun d s own).0 (begun d s own).1
+one-asked : (d : List Def) (s : Session) (a : Asked) → OneLineOf (begin_asked d s a)
+one-asked d s (asks.Refused refusal) = refl
+one-asked d s (asks.Runs own) = one-begun (begun d s own).0 (begun d s own).1
 
 pub speaks : (coming : List Outcome) → Speaks (by_history coming) IsOneLine
 speaks coming = record {
-  begins = λ d s statement answer after is. subst OneLineOf is (one-statement d s statement);
+  begins = λ d s statement answer after is. subst OneLineOf is (one-asked d s (asked d s statement.line statement.from));
   finishes = λ d names waiting reply. one-line (finished d names waiting.0 waiting.1 reply).0;
   crowded = refl;
 }

@@ -39,15 +39,15 @@ use Rattle.mv_view.proofs.callers.Forms.{alike, difference-itself, difference-ot
 use Rattle.ses_report.specs.declared.refusal.Refusal.{Refusal}
 use Rattle.ses_report.specs.Refusals.{not_attached, already_attached}
 use Rattle.ses_step.specs.declared.answer.Answer.TheVariants.{Done, Shown, Refused}
-use Rattle.ses_step.specs.declared.line.Command.{Command}
-use Rattle.ses_step.specs.declared.line.Command.TheVariants as command
+use Rattle.ses_step.specs.declared.command.Command.{Command}
+use Rattle.ses_step.specs.declared.command.Command.TheVariants as command
 use Rattle.ses_step.specs.declared.session.Begun.{Begun}
 use Rattle.ses_step.specs.declared.session.Begun.TheVariants.{Said, Ask}
 use Rattle.ses_step.specs.declared.session.Known.{Known as Session}
 use Rattle.ses_step.specs.Sessions.{located_cell, generation_in, is_single_at, cell_in, with_cell, commit_asked}
 use Rattle.script_world.specs.Worlds.{Event}
 use Rattle.script_world.specs.Outcomes.{Outcome, among}
-use Rattle.script_meaning.specs.CommandAnswers.{NamesSingle}
+use Rattle.script_meaning.specs.LineAnswers.{NamesSingle}
 use Rattle.script_meaning.specs.Extending.{IsCommitted}
 use Rattle.script_meaning.specs.Fit.{SharedFits}
 use Rattle.script_meaning.specs.Language.{history_machine, by_history, HistoryDisk, HistoryWorld}
@@ -55,7 +55,7 @@ use Rattle.aw_store.specs.StoredRecords.{CanBeOpened}
 use Rattle.script_meaning.specs.SnapshotReads.{IsFresh, Attaches, AttachGivesLatest, is_at, holding, assigns, read_after, staged_after, MovesBy, Moves, OwnCommandsMove, IsShown, ShowsWhatIsRead}
 use Rattle.script_meaning.specs.Transcript.{world_at}
 use Rattle.script_meaning.specs.Turns.{Turn, turn_from, turn}
-use Rattle.script_meaning.proofs.CommandAnswers.{cell-seen, single-seen}
+use Rattle.script_meaning.proofs.LineAnswers.{cell-seen, single-seen}
 use Rattle.script_meaning.proofs.Begins.{Sees, located-cases, located_cell-cases}
 use Rattle.script_meaning.proofs.Differences.{gives_newer}
 use Rattle.script_meaning.proofs.DiskTurns.{unwritten_turn, turn-cases, attach-unwritten}

@@ -1,29 +1,32 @@
 -- An attached session reads what was the latest generation when it attached, and behind that what its own lines assigned.
-use Rattle.std.specs.Prelude.{◌≡◌, ◌≢◌, ◌<◌, ◌++◌, ◌⊎◌, ℕ, zero, suc, Bool, List, [], ◌∷◌, length, Option, Some, None, slice_get, slice_set, if◌then◌else◌, refl}
+use Rattle.std.specs.Prelude.{◌≡◌, ◌≢◌, ◌<◌, ◌++◌, ◌⊎◌, ℕ, zero, suc, Bool, List, [], ◌∷◌, ◌+◌, length, Option, Some, None, slice_get, slice_index_or, slice_set, if◌then◌else◌, refl}
 use Rattle.std.specs.Option.{ForSome}
-use Rattle.std.proofs.Common.{◌∙◌, ap, sym, subst, subst₂, inl, inr, ⊎_elim, arith, append-nil, append_assoc}
+use Rattle.std.proofs.Common.{◌∙◌, ap, ap₂, length-append, sym, subst, subst₂, inl, inr, ⊎_elim, arith, append-nil, append_assoc}
 use Rattle.std.proofs.lemmas.Bool.{eq-eqb, ne_eqb, cases_eq}
 use Rattle.std.proofs.lemmas.Option.{none-some, same_Some, slice_get_within, slice_get-get_or}
 use Rattle.aw_schema.specs.declared.definition.Def.{Def}
 use Rattle.aw_body.specs.declared.body.Body.{Body}
 use Rattle.aw_codec.specs.declared.record.Decoded.{Decoded}
 use Rattle.mv_view.specs.ViewState.{ObjectView, ViewState, object_of, kinds_of}
-use Rattle.ses_step.specs.declared.line.Command.{Command}
-use Rattle.ses_step.specs.declared.line.Command.TheVariants as command
+use Rattle.ses_step.specs.declared.command.Asked.{Asked}
+use Rattle.ses_step.specs.declared.command.Asked.TheVariants.{Runs, Refused}
+use Rattle.ses_step.specs.declared.command.Command.{Command}
+use Rattle.ses_step.specs.declared.command.Command.TheVariants as command
 use Rattle.ses_step.specs.declared.session.Known.{Known as Session}
+use Rattle.ses_step.specs.SessionLines.{asked}
 use Rattle.ses_step.specs.Sessions.{new_session}
-use Rattle.script_world.specs.Worlds.{Event, Answered, session_of, silent, refused_so, with_definitions, with_session, own_session, commanded, shared_of, closed, settled, answered, world_after}
+use Rattle.script_world.specs.Worlds.{Event, Answered, session_of, silent, refused_so, with_definitions, with_session, own_session, begun_so, commanded, shared_of, closed, settled, answered, world_after}
 use Rattle.script_world.specs.Outcomes.{Outcome, among}
 use Rattle.script_world.proofs.callers.Appending.{world_after-append}
 use Rattle.script_world.proofs.callers.Moves.{MayTurn}
 use Rattle.script_world.proofs.callers.Walk.{Rests, walk}
 use Rattle.script_meaning.specs.Fit.{SharedFits}
 use Rattle.script_meaning.specs.Generations.{latest_body}
-use Rattle.script_meaning.specs.Language.{language, HistoryDisk, HistoryWorld, by_history}
+use Rattle.script_meaning.specs.Language.{language, Written, begin_asked, HistoryDisk, HistoryWorld, by_history}
 use Rattle.aw_store.specs.StoredRecords.{CanBeOpened}
 use Rattle.script_meaning.specs.SnapshotReads.{IsFresh, Attaches, read_after, Moves, read_by, read_on, IsRead, ReadItsOwn}
-use Rattle.script_meaning.specs.Turns.{with_turn, Turn, turn}
 use Rattle.script_meaning.specs.Transcript.{opening, world_at}
+use Rattle.script_meaning.specs.Turns.{with_turn, Turn, turn, asked_under, asked_of}
 use Rattle.script_world.proofs.callers.Elements.{slice_get-set_other, slice_get-set_cases, slice_get-append, slice_get-push_cases}
 use Rattle.script_meaning.proofs.KeptKinds.{if-some, seen-before}
 use Rattle.script_meaning.proofs.ReachableWorlds.{WorldStands, taken_up-stands, opening_sessions, world_fits, always_stands, always_fits}
@@ -45,17 +48,30 @@ by_events P none more events = from [] none events
 
 read_on-push : (coming : List Outcome) (who object : ℕ) (w : HistoryWorld) (events : List Event) (event : Event) (read : Body) →
     let last = world_after (by_history coming) w events in
-    read_on coming who object w (events ++ event ∷ []) read ≡ read_by last.definitions who object (session_of last event) (read_on coming who object w events read)
+    read_on coming who object w (events ++ event ∷ []) read ≡ read_by last.definitions who object (asked_of last event) (read_on coming who object w events read)
 read_on-push coming who object w [] event read = refl
 read_on-push coming who object w (one ∷ events) event read =
-    read_on-push coming who object (answered (by_history coming) w one).world events event (read_by w.definitions who object (session_of w one) read)
+    read_on-push coming who object (answered (by_history coming) w one).world events event (read_by w.definitions who object (asked_of w one) read)
 
 -- an event of another session, or of none
-read_by-other : (definitions : List Def) (who object : ℕ) (own : Option (ℕ × Option Command)) → ForSome own (λ it. it.0 ≢ who) → (read : Body) → read_by definitions who object own read ≡ read
+read_by-other : (definitions : List Def) (who object : ℕ) (own : Option (ℕ × Asked)) → ForSome own (λ it. it.0 ≢ who) → (read : Body) → read_by definitions who object own read ≡ read
 read_by-other definitions who object None differs read = refl
-read_by-other definitions who object (Some (place, None)) differs read = refl
-read_by-other definitions who object (Some (place, Some own)) differs read =
-    ap (λ (same : Bool). if same then read_after definitions object own read else read) (ne_eqb place who (differs (place, Some own) refl))
+read_by-other definitions who object (Some (place, Refused refusal)) differs read = refl
+read_by-other definitions who object (Some (place, Runs own)) differs read =
+    ap (λ (same : Bool). if same then read_after definitions object own read else read) (ne_eqb place who (differs (place, Runs own) refl))
+
+-- what is asked is asked of the session of the event
+under-holds : (w : HistoryWorld) (P : ℕ → Type 0) (own : Option (ℕ × Written)) → ForSome own (λ it. P it.0) → ForSome (asked_under w own) (λ it. P it.0)
+under-holds w P None holds found is = absurd (none-some found is)
+under-holds w P (Some (place, written)) holds found is =
+    subst P (ap (λ (it : ℕ × Asked). it.0) (same_Some (place, asked w.definitions (own_session w place) written.line written.from) found is)) (holds (place, written) refl)
+
+-- one element more at the end, which is the default there
+index-push : {X : Type 0} (xs : List X) (x d : X) (i : ℕ) → (i ≡ length xs → x ≡ d) → i < length xs + 1 → slice_index_or (xs ++ x ∷ []) i d ≡ slice_index_or xs i d
+index-push [] x d zero same within = same refl
+index-push [] x d (suc i) same within = absurd (omega arith)
+index-push (y ∷ xs) x d zero same within = refl
+index-push (y ∷ xs) x d (suc i) same within = index-push xs x d i (λ at. same (omega arith)) (omega arith)
 
 -- what a session of this world reads now, after an event
 module _ (coming : List Outcome) (w : HistoryWorld) (event : Event) (who object : ℕ) where
@@ -67,11 +83,11 @@ module _ (coming : List Outcome) (w : HistoryWorld) (event : Event) (who object 
     found : slice_get w.sessions who ≡ Some session
     attached : session.view ≡ Some view
     seen : object_of view object ≡ Some one
-    reads : read ≡ read_by w.definitions who object (session_of w event) one.private
+    reads : read ≡ read_by w.definitions who object (asked_of w event) one.private
 
   -- the event is an AW ATTACH of a session that wasn't attached, and it reads the latest generation
   record HasAttached (shared : Option HistoryDisk) (read : Body) : Type 0 where
-    own : session_of w event ≡ Some (who, Some command.Attach)
+    own : asked_of w event ≡ Some (who, Runs command.Attach)
     unattached : ForSome (slice_get w.sessions who) (λ session. session.view ≡ None)
     disk : HistoryDisk
     is_open : shared ≡ Some disk
@@ -89,7 +105,7 @@ module _ (coming : List Outcome) (w : HistoryWorld) (event : Event) (who object 
   -- of none of the session's own lines
   still : ForSome (session_of w event) (λ it. it.0 ≢ who) → (a : Answered language HistoryDisk) → ((session : Session) (view : ViewState) → session.view ≡ Some view → slice_get a.world.sessions who ≡ Some session → slice_get w.sessions who ≡ Some session) → Reads a
   still differs a there session view one found attached seen =
-      inl (record { session = session; view = view; one = one; found = there session view attached found; attached = attached; seen = seen; reads = sym (read_by-other w.definitions who object (session_of w event) differs one.private) })
+      inl (record { session = session; view = view; one = one; found = there session view attached found; attached = attached; seen = seen; reads = sym (read_by-other w.definitions who object (asked_of w event) (under-holds w (λ place. place ≢ who) (session_of w event) differs) one.private) })
 
 -- a turn of the session
 module _ (names : List (List ℕ)) (records : List Decoded) (coming : List Outcome) (events : List Event) (event : Event) (can : CanBeOpened records) (who object : ℕ) where
@@ -103,7 +119,7 @@ module _ (names : List (List ℕ)) (records : List Decoded) (coming : List Outco
   few : (session : Session) → slice_get w.sessions who ≡ Some session → who < 64
   few session found = omega (arith, slice_get_within w.sessions who session found, (always_fits names records coming events can).paired)
 
-  module _ (after : HistoryWorld) (rests : Rests (by_history coming) w after) (disk : HistoryDisk) (is_open : after.shared ≡ Some disk) (fits : SharedFits after.definitions after.sessions disk.state) (here : who < length after.sessions) (own : Command) (is : session_of w event ≡ Some (who, Some own)) where
+  module _ (after : HistoryWorld) (rests : Rests (by_history coming) w after) (disk : HistoryDisk) (is_open : after.shared ≡ Some disk) (fits : SharedFits after.definitions after.sessions disk.state) (here : who < length after.sessions) (own : Command) (is : asked_of w event ≡ Some (who, Runs own)) where
     abbrev s : Session
     s = own_session after who
 
@@ -154,7 +170,7 @@ module _ (names : List (List ℕ)) (records : List Decoded) (coming : List Outco
           let fresh : Attaches disk t = subst₂ (λ (definitions : List Def) (asked : Command). Attaches disk (turn (by_history coming) definitions after.names disk s asked)) fits.definitions_are (sym attaches) gives in
           let those : view_now ≡ fresh.view = same_Some view_now fresh.view (sym now ∙ fresh.attached) in
           let latest = if-some (IsFresh disk.state object) (object_of fresh.view object) one (sym (ap (λ (its : ViewState). object_of its object) those) ∙ seen) (fresh.each object) in
-          inr (record { own = is ∙ ap (λ it. Some (who, Some it)) attaches; unattached = none_attached detached; disk = disk; is_open = ap Some fresh.shared; reads = latest.reads ∙ latest.has.body })
+          inr (record { own = is ∙ ap (λ (it : Command). Some (who, Runs it)) attaches; unattached = none_attached detached; disk = disk; is_open = ap Some fresh.shared; reads = latest.reads ∙ latest.has.body })
 
       turned_read : Read
       turned_read = by_view s.view refl
@@ -188,23 +204,43 @@ module _ (names : List (List ℕ)) (records : List Decoded) (coming : List Outco
     fits : SharedFits after.definitions after.sessions disk.state
     fits = (world_fits records (among coming) after stands).shared disk may.open_so
 
-    by_statement : (statement : Option Command) → session_of w event ≡ Some (place, statement) → Now (settled (by_history coming) (commanded after disk place statement))
-    by_statement None is = λ session view one found attached seen.
+    -- the session is the one that the world had, or a new one
+    own-same : own_session after place ≡ own_session w place
+    own-same = ⊎_elim (λ same. ap (λ (those : List Session). slice_index_or those place (new_session place)) same) by_longer rests.sessions
+      where
+        by_longer : after.sessions ≡ w.sessions ++ new_session (length w.names) ∷ [] → own_session after place ≡ own_session w place
+        by_longer longer =
+            let size : length after.sessions ≡ length w.sessions + 1 = ap length longer ∙ length-append w.sessions (new_session (length w.names) ∷ []) in
+            let paired = (always_fits names records coming events can).paired in
+            let inside = here in
+            let few_names = may.room in
+            ap (λ (those : List Session). slice_index_or those place (new_session place)) longer
+            ∙ index-push w.sessions (new_session (length w.names)) (new_session place) place (λ at. ap new_session (omega arith)) (omega arith)
+
+    asked-is : (written : Written) → session_of w event ≡ Some (place, written) → asked_of w event ≡ Some (place, asked after.definitions (own_session after place) written.line written.from)
+    asked-is written is =
+        ap (asked_under w) is ∙ ap₂ (λ (d : List Def) (s : Session). Some (place, asked d s written.line written.from)) (sym rests.definitions) (sym own-same)
+
+    by_asked : (written : Written) → session_of w event ≡ Some (place, written) → (a : Asked) → asked_of w event ≡ Some (place, a) → Now (settled (by_history coming) (begun_so after disk place (begin_asked after.definitions (own_session after place) a)))
+    by_asked written of_session (Refused refusal) is = λ session view one found attached seen.
         inl (record { session = session; view = view; one = one; found = was_there coming w event who object after rests session view attached (⊎_elim (set session) (λ other. other.1) (slice_get-set_cases after.sessions place who (own_session after place) session found)); attached = attached; seen = seen; reads = sym (ap (λ it. read_by w.definitions who object it one.private) is) })
       where
         set : (session : Session) → (who ≡ place) × (session ≡ own_session after place) → slice_get after.sessions who ≡ Some session
         set session same =
             ap (slice_get after.sessions) same.0 ∙ slice_get-get_or after.sessions place (new_session place) here ∙ ap Some (sym same.1)
-    by_statement (Some own) is = subst Now (sym (commanded-turn (by_history coming) after place disk may.open_so own)) (⊎_elim mine other (cases_eq place who))
+    by_asked written of_session (Runs own) is = subst Now (sym (commanded-turn (by_history coming) after place disk may.open_so own)) (⊎_elim mine other (cases_eq place who))
       where
         mine : place ≡ who → Now (with_turn after place (turn (by_history coming) after.definitions after.names disk (own_session after place) own))
         mine same =
-            subst (λ (at : ℕ). Now (with_turn after at (turn (by_history coming) after.definitions after.names disk (own_session after at) own))) (sym same) (own_turn after rests disk may.open_so fits (omega (arith, here, same)) own (is ∙ ap (λ (at : ℕ). Some (at, Some own)) same))
+            subst (λ (at : ℕ). Now (with_turn after at (turn (by_history coming) after.definitions after.names disk (own_session after at) own))) (sym same) (own_turn after rests disk may.open_so fits (omega (arith, here, same)) own (is ∙ ap (λ (at : ℕ). Some (at, Runs own)) same))
 
         other : place ≢ who → Now (with_turn after place (turn (by_history coming) after.definitions after.names disk (own_session after place) own))
         other differs =
             let t = turn (by_history coming) after.definitions after.names disk (own_session after place) own in
-            still coming w event who object (λ those at. λ same. differs (ap (λ (it : ℕ × Option Command). it.0) (same_Some (place, Some own) those (sym is ∙ at)) ∙ same)) (with_turn after place t) (λ session view attached found. was_there coming w event who object after rests session view attached (sym (slice_get-set_other after.sessions place who t.session (λ same. differs (sym same))) ∙ found))
+            still coming w event who object (λ those at. λ same. differs (ap (λ (it : ℕ × Written). it.0) (same_Some (place, written) those (sym of_session ∙ at)) ∙ same)) (with_turn after place t) (λ session view attached found. was_there coming w event who object after rests session view attached (sym (slice_get-set_other after.sessions place who t.session (λ same. differs (sym same))) ∙ found))
+
+    by_statement : (written : Written) → session_of w event ≡ Some (place, written) → Now (settled (by_history coming) (commanded after disk place written))
+    by_statement written is = by_asked written is (asked after.definitions (own_session after place) written.line written.from) (asked-is written is)
 
   reads_event : Now (answered (by_history coming) w event)
   reads_event = walk (by_history coming) w event Now (record {
@@ -228,7 +264,7 @@ module _ (names : List (List ℕ)) (records : List Decoded) (coming : List Outco
   at-push : (events : List Event) (event : Event) → at (events ++ event ∷ []) ≡ (answered (by_history coming) (at events) event).world
   at-push events event = world_after-append (by_history coming) (opening names records) events (event ∷ [])
 
-  read_more : (events : List Event) (event : Event) (who object : ℕ) (read now : Body) → IsRead names records coming events who object read → now ≡ read_by (at events).definitions who object (session_of (at events) event) read → IsRead names records coming (events ++ event ∷ []) who object now
+  read_more : (events : List Event) (event : Event) (who object : ℕ) (read now : Body) → IsRead names records coming events who object read → now ≡ read_by (at events).definitions who object (asked_of (at events) event) read → IsRead names records coming (events ++ event ∷ []) who object now
   read_more events event who object read now it is = record {
     before = it.before;
     event = it.event;
@@ -237,7 +273,7 @@ module _ (names : List (List ℕ)) (records : List Decoded) (coming : List Outco
     attaches = it.attaches;
     disk = it.disk;
     open_then = it.open_then;
-    reads = is ∙ ap (λ (w : HistoryWorld). read_by w.definitions who object (session_of w event) read) same ∙ ap (read_by last.definitions who object (session_of last event)) it.reads ∙ sym (read_on-push coming who object start it.behind event (latest_body it.disk.state object));
+    reads = is ∙ ap (λ (w : HistoryWorld). read_by w.definitions who object (asked_of w event) read) same ∙ ap (read_by last.definitions who object (asked_of last event)) it.reads ∙ sym (read_on-push coming who object start it.behind event (latest_body it.disk.state object));
   }
     where
       start : HistoryWorld

@@ -8,7 +8,7 @@ use Rattle.mv_view.specs.Each.{object_in}
 use Rattle.mv_view.specs.ViewState.{ObjectView, object_of, kept_kinds}
 use Rattle.ses_step.specs.declared.answer.Answer.{Answer}
 use Rattle.ses_step.specs.declared.answer.Answer.TheVariants.{Done, Refused}
-use Rattle.ses_step.specs.declared.line.Command.TheVariants as command
+use Rattle.ses_step.specs.declared.command.Command.TheVariants as command
 use Rattle.ses_report.specs.Refusals.{owned_by, newer}
 use Rattle.ses_step.specs.Sessions.{name_of, name_at}
 use Rattle.script_world.specs.Outcomes.{Outcome}

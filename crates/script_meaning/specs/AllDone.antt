@@ -2,7 +2,7 @@
 use Rattle.std.specs.Prelude.{List, [], ℕ}
 use Rattle.aw_codec.specs.declared.record.Decoded.{Decoded}
 use Rattle.script_world.specs.Worlds.{Event}
-use Rattle.script_world.specs.Outcomes.{Outcome, done}
+use Rattle.script_world.specs.Outcomes.{Outcome}
 use Rattle.script_world.specs.Laws.{SameOf}
 use Rattle.script_meaning.specs.Language.{by_history}
 use Rattle.script_meaning.specs.Transcript.{opening}

@@ -9,7 +9,7 @@ use Rattle.mv_view.specs.Rules.{changes}
 use Rattle.mv_view.specs.ViewState.{ObjectView, ViewState, object_of}
 use Rattle.ses_step.specs.declared.answer.Answer.{Answer}
 use Rattle.ses_step.specs.declared.answer.Answer.TheVariants.{Done, Refused}
-use Rattle.ses_step.specs.declared.line.Command.TheVariants as command
+use Rattle.ses_step.specs.declared.command.Command.TheVariants as command
 use Rattle.ses_step.specs.declared.session.Known.{Known as Session}
 use Rattle.ses_report.specs.Refusals.{full, too_large, disk_fault}
 use Rattle.ses_step.specs.Sessions.{name_of}

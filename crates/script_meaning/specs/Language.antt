@@ -1,5 +1,5 @@
--- The lines that a session reads, as a meaning: objects of every kept kind, each defined by one line, and six commands.
-use Rattle.std.specs.Prelude.{◌&&◌, ℕ, Bool, true, false, List, [], ◌∷◌, length, min, nat_lt, Option, Some, None, Result, Err, if◌then◌else◌}
+-- The lines of a script as a meaning: definitions of one line and blocks, and sessions' lines, of which six commands run.
+use Rattle.std.specs.Prelude.{◌&&◌, ℕ, Bool, true, false, List, [], ◌∷◌, length, min, nat_lt, Some, None, if◌then◌else◌}
 use Rattle.aw_schema.specs.declared.definition.Def.{Def}
 use Rattle.aw_body.specs.KeptBodies.{bodies_of}
 use Rattle.aw_codec.specs.declared.record.Decoded.{Decoded}
@@ -11,47 +11,53 @@ use Rattle.mv_core.specs.declared.entry.Reply.TheVariants.{TooLarge, Fault}
 use Rattle.mv_core.specs.SharedStep.{writes, shared_step, table_step}
 use Rattle.mv_core.specs.Workspace.{Workspace, Table, opened, table_of}
 use Rattle.aw_store.specs.Stores.{record_of}
-use Rattle.ses_report.specs.declared.refusal.Refusal.{Refusal}
-use Rattle.ses_report.specs.Refusals.{no_form, definitions_closed}
+use Rattle.ses_report.specs.Refusals.{too_many_sessions}
 use Rattle.ses_report.specs.Reports as report
-use Rattle.ses_step.specs.declared.line.Line.{Line}
-use Rattle.ses_step.specs.declared.line.Line.TheVariants as line
-use Rattle.ses_step.specs.declared.line.Command.{Command}
-use Rattle.ses_step.specs.declared.answer.Answer.TheVariants.{Refused}
+use Rattle.ses_step.specs.declared.line.LineForm.{LineForm}
+use Rattle.ses_step.specs.declared.line.LineForm.TheVariants as line
+use Rattle.ses_step.specs.declared.command.Asked.{Asked}
 use Rattle.ses_step.specs.declared.session.Begun.{Begun}
 use Rattle.ses_step.specs.declared.session.Begun.TheVariants.{Said, Ask}
 use Rattle.ses_step.specs.declared.session.Known.{Known as Session}
-use Rattle.ses_step.specs.Lines.{line_form}
+use Rattle.ses_step.specs.Lines.{opens_block, is_end, line_form}
 use Rattle.ses_step.specs.Answers.{answer_of}
-use Rattle.ses_step.specs.Sessions.{new_session, begun, finished}
+use Rattle.ses_step.specs.SessionLines.{asked, begun_as}
+use Rattle.ses_step.specs.Sessions.{new_session, finished}
 use Rattle.script_world.specs.Meaning as world
-use Rattle.script_world.specs.Worlds.{World, Machine, no_session}
+use Rattle.script_world.specs.Worlds.{World, Machine}
 use Rattle.script_world.specs.Outcomes.{Outcome, OnDisk, Writing, by_list}
-use Rattle.script_meaning.specs.Defining.{defined}
+use Rattle.script_meaning.specs.DefinitionLines.{define, late}
 
 -- ---- a line
 
--- each definition is one line
-abbrev pub form_of : Line → world.Form (Option Command)
-form_of line.Blank = world.nothing
-form_of line.Malformed = world.malformed no_form
-form_of (line.Definition found) = world.ends
-form_of (line.Session name command) = world.under name command
+-- a session's line, and the place in it from which its statement stands
+pub record Written : Type 0 where
+  pub line : List ℕ
+  pub from : ℕ
 
--- what a line defines; a definition line that is of no form is refused with 1
-abbrev pub defined_by : List Def → Line → Result (List Def) Refusal
-defined_by definitions (line.Definition (Some definition)) = defined definitions definition
-defined_by definitions _ = Err no_form
+abbrev pub written : List ℕ → ℕ → Written
+written line from = record { line = line; from = from }
 
-abbrev pub define : List Def → List (List ℕ) → Result (List Def) Refusal
-define definitions [] = Err no_form
-define definitions (text ∷ texts) = defined_by definitions (line_form text)
+-- a definition is one line, or a block
+abbrev pub form_of : List ℕ → LineForm → world.Form Written
+form_of text line.Blank = world.nothing
+form_of text line.Definition = if opens_block text then world.joins else world.ends
+form_of text (line.Session name from) = world.under name (written text from)
+form_of text (line.Bad refusal) = world.malformed refusal
+
+-- a block goes on to the first line that is only END, whatever its lines are
+abbrev pub block_form : List ℕ → world.Form Written
+block_form text = if is_end text then world.ends else world.joins
+
+abbrev pub form : List (List ℕ) → List ℕ → world.Form Written
+form [] text = form_of text (line_form text)
+form (first ∷ lines) text = block_form text
 
 abbrev pub is_any : List Def → Bool
 is_any [] = false
 is_any (def ∷ definitions) = true
 
--- ---- a command
+-- ---- a session's line
 
 -- a session that waits keeps the entry that it asked
 abbrev pub Waiting : Type 0
@@ -61,10 +67,12 @@ abbrev pub begun_of : Begun × Session → world.Begun Entry Session Waiting
 begun_of (Said answer, session) = world.said (answer_of answer) session
 begun_of (Ask entry, session) = world.ask entry (session, entry)
 
--- what is no command of its own is refused
-abbrev pub begin : List Def → Session → Option Command → world.Begun Entry Session Waiting
-begin definitions s None = world.said (answer_of (Refused no_form)) s
-begin definitions s (Some command) = begun_of (begun definitions s command)
+-- what is asked, as a session begins it
+abbrev pub begin_asked : List Def → Session → Asked → world.Begun Entry Session Waiting
+begin_asked definitions s it = begun_of (begun_as definitions s it)
+
+abbrev pub begin : List Def → Session → Written → world.Begun Entry Session Waiting
+begin definitions s written = begin_asked definitions s (asked definitions s written.line written.from)
 
 abbrev pub finish : List Def → List (List ℕ) → Waiting → Reply → report.Answer × Session
 finish definitions names waiting reply =
@@ -76,19 +84,19 @@ language = record {
   Definitions = List Def;
   Session = Session;
   Waiting = Waiting;
-  Statement = Option Command;
+  Statement = Written;
   Entry = Entry;
   Reply = Reply;
-  form = λ open_lines text. form_of (line_form text);
+  form = form;
   define = define;
   none_defined = [];
   is_any = is_any;
   new_session = new_session;
   begin = begin;
   finish = finish;
-  late = λ lines. definitions_closed;
-  crowded = no_form;
-  crowded_prefix = λ name. no_session;
+  late = late;
+  crowded = too_many_sessions;
+  crowded_prefix = λ name. name;
 }
 
 -- ---- the shared state, and its records

@@ -1,4 +1,5 @@
 pub mod Defining
+pub mod DefinitionLines
 pub mod Language
 pub mod Generations
 pub mod DefinitionAnswers
@@ -14,6 +15,6 @@ pub mod StoreRuns
 pub mod StoreAttempts
 pub mod ObjectsSimulation
 pub mod SnapshotReads
-pub mod CommandAnswers
+pub mod LineAnswers
 pub mod AcquireAnswers
 pub mod RecordsOfRuns

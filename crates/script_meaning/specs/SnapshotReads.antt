@@ -13,17 +13,20 @@ use Rattle.mv_core.specs.Workspace.{Workspace}
 use Rattle.mv_view.specs.Rules.{cell_in}
 use Rattle.mv_view.specs.ViewState.{ObjectView, ViewState, object_of, kinds_of, kept_kinds}
 use Rattle.ses_step.specs.declared.answer.Answer.TheVariants.{Done, Shown}
-use Rattle.ses_step.specs.declared.line.Command.{Command}
-use Rattle.ses_step.specs.declared.line.Command.TheVariants as command
+use Rattle.ses_step.specs.declared.command.Asked.{Asked}
+use Rattle.ses_step.specs.declared.command.Asked.TheVariants as asked
+use Rattle.ses_step.specs.declared.command.Asked.TheVariants.{Runs}
+use Rattle.ses_step.specs.declared.command.Command.{Command}
+use Rattle.ses_step.specs.declared.command.Command.TheVariants as command
 use Rattle.ses_step.specs.declared.session.Known.{Known as Session}
 use Rattle.ses_step.specs.Sessions.{is_single_at}
-use Rattle.script_world.specs.Worlds.{Event, session_of, answered}
+use Rattle.script_world.specs.Worlds.{Event, answered}
 use Rattle.script_world.specs.Outcomes.{Outcome}
 use Rattle.script_meaning.specs.Generations.{generations, latest_body}
 use Rattle.script_meaning.specs.Language.{HistoryDisk, HistoryWorld, by_history}
 use Rattle.script_meaning.specs.Transcript.{world_at}
-use Rattle.script_meaning.specs.Turns.{Turn, turn}
-use Rattle.script_meaning.specs.CommandAnswers.{NamesSingle}
+use Rattle.script_meaning.specs.Turns.{Turn, turn, asked_of}
+use Rattle.script_meaning.specs.LineAnswers.{NamesSingle}
 use Rattle.script_meaning.specs.Extending.{HasLatest, IsExtended, ForAttached}
 
 -- ---- AW ATTACH
@@ -126,20 +129,20 @@ ShowsWhatIsRead coming w =
 -- ---- what a session reads after events
 
 -- a command of this session moves what it reads of the object, and no other event does
-abbrev pub read_by : List Def → ℕ → ℕ → Option (ℕ × Option Command) → Body → Body
-read_by definitions who object (Some (place, Some own)) read = if place == who then read_after definitions object own read else read
-read_by definitions who object (Some (place, None)) read = read
+abbrev pub read_by : List Def → ℕ → ℕ → Option (ℕ × Asked) → Body → Body
+read_by definitions who object (Some (place, Runs own)) read = if place == who then read_after definitions object own read else read
+read_by definitions who object (Some (place, asked.Refused refusal)) read = read
 read_by definitions who object None read = read
 
 -- the events one after the other, each in the world in which it is taken up
 abbrev pub read_on : List Outcome → ℕ → ℕ → HistoryWorld → List Event → Body → Body
 read_on coming who object w [] read = read
 read_on coming who object w (event ∷ events) read =
-    read_on coming who object (answered (by_history coming) w event).world events (read_by w.definitions who object (session_of w event) read)
+    read_on coming who object (answered (by_history coming) w event).world events (read_by w.definitions who object (asked_of w event) read)
 
 -- the event is an AW ATTACH of this session, which isn't attached yet
 pub record IsAttachOf (w : HistoryWorld) (who : ℕ) (event : Event) : Type 0 where
-  pub own : session_of w event ≡ Some (who, Some command.Attach)
+  pub own : asked_of w event ≡ Some (who, Runs command.Attach)
   pub unattached : ForSome (slice_get w.sessions who) (λ session. session.view ≡ None)
 
 -- Among these events the session attached. It reads of the object what was the latest generation then, and behind that what

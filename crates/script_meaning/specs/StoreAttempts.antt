@@ -1,15 +1,13 @@
 -- The attempts that the calls of a store make, and how they ended.
-use Rattle.std.specs.Prelude.{ℕ, Bool, true, false, List, [], ◌∷◌, ◌≡◌, ◌≤◌, length, nat_le, Option}
+use Rattle.std.specs.Prelude.{ℕ, Bool, true, false, List, [], ◌∷◌, ◌≡◌, ◌≤◌, length, Option}
 use Rattle.std.specs.Option.{ForSome}
-use Rattle.std.specs.List.{count_by}
 use Rattle.aw_codec.specs.declared.record.Decoded.{Decoded}
 use Rattle.mv_core.specs.declared.entry.Entry.{Entry}
 use Rattle.mv_core.specs.declared.entry.Reply.{Reply}
 use Rattle.mv_core.specs.declared.entry.Reply.TheVariants.{Fault}
 use Rattle.mv_core.specs.SharedStep.{writes}
 use Rattle.aw_store.specs.Stores.{record_of, StoreState}
-use Rattle.aw_store.specs.StoredRecords.{HoldsRecords}
-use Rattle.script_world.specs.Outcomes.{Outcome, done, faulted, Attempt, settled_records, IsInDoubt, MayLeave}
+use Rattle.script_world.specs.Outcomes.{Outcome, done, faulted, Attempt, settled_records, IsInDoubt}
 use Rattle.script_meaning.specs.Transcript.{Rise, ended_by, HoldsLeft}
 
 -- the outcomes that a reply to an entry tells: that of the commit, where it reached the disk

@@ -7,10 +7,6 @@ ghost use Rattle.aw_schema.specs.declared.definition.Def.{Def};
 ghost use Rattle.aw_body.specs.declared.body.Body.{Body};
 ghost use Rattle.aw_codec.specs.declared.record.Decoded.{Decoded};
 ghost use Rattle.mv_core.specs.declared.object.Object.{Object};
-ghost use Rattle.ses_report.specs.Refusals.{no_form, definitions_closed};
-ghost use Rattle.ses_step.specs.declared.definition.Definition.{Definition};
-ghost use Rattle.ses_step.specs.declared.line.Line.TheVariants as form;
-ghost use Rattle.ses_step.specs.Lines.{line_form};
 ghost use Rattle.script_world.specs.Faults.{SeesFaults, FaultsAreSeen};
 ghost use Rattle.script_world.specs.Laws.{KeepsOthers, SameOf, GoesOn, RefusalChangesNothing, LeavesApart, MalformedIsRefused, ClosesExactly, SessionsAreAnswered, TextFixesWorld, LinesAreSplit};
 ghost use Rattle.script_world.specs.Outcomes.{LeavesAllDone, Outcome, Attempt, among, used, AreDone};
@@ -18,10 +14,10 @@ ghost use Rattle.script_world.specs.Worlds.{Event};
 ghost use Rattle.script_meaning.specs.AcquireAnswers.{AcquiresAreAnswered};
 ghost use Rattle.script_meaning.specs.ObjectsSimulation.{AreAlike};
 ghost use Rattle.script_meaning.specs.AllDone.{IsAsWithNone};
-ghost use Rattle.script_meaning.specs.CommandAnswers.{CommandsAreAnswered, AssignmentsAreDone, IsOneLine};
+ghost use Rattle.script_meaning.specs.LineAnswers.{AssignmentsAreDone, IsOneLine, LinesAreAnswered, OthersAreRefused, UpdatesAreDone};
 ghost use Rattle.script_meaning.specs.CommitFaults.{is_fault, fault_answer};
 ghost use Rattle.script_meaning.specs.CrashRuns.{LeavesARunOf, LeavesWhatOpens};
-ghost use Rattle.script_meaning.specs.DefinitionAnswers.{AnswersDefinition, IsRefused};
+ghost use Rattle.script_meaning.specs.DefinitionAnswers.{BlocksAreOpen, DefinitionsAreAnswered};
 ghost use Rattle.script_meaning.specs.Dump.{DumpTells, RecordsTell};
 ghost use Rattle.script_meaning.specs.Extending.{CommitsExtend, GrantsHaveLatest};
 ghost use Rattle.script_meaning.specs.Fit.{WorldFits};
@@ -80,26 +76,32 @@ pub fn lines_keep_other_sessions()
     ensures { (coming : List Outcome) (w : HistoryWorld) (event : Event) → KeepsOthers (by_history coming) w event }
 {}
 
-/// A command is refused with 1 where it names an object that isn't defined; else with 15 where its
-/// session isn't attached, or with 16 where it is an AW ATTACH of one that is; else with 1 where it
-/// shows or assigns another object than an INTEGER variable without dimensions. UPDATE of an attached
-/// session is answered `ok`, and after any lines of a script so is its assignment to such a variable.
-/// See docs/SHARING.md, 'What is proved'.
-pub fn commands_are_answered()
-    ensures in_order { (coming : List Outcome) → CommandsAreAnswered coming }
+/// A session's line is refused by the first of these that applies, and leaves the session: its tokens
+/// begin no statement (1); the session isn't attached (15), or for AW ATTACH is (16); a name is
+/// unknown (2), of a wrong kind (3) or comes twice (7); types (4) or dimensions (5) don't fit, or it
+/// weighs too much (14); the session owns an object (20), or doesn't own it (19); a dimension lacks a
+/// fixed value (6); statements of this form don't run yet (1). Else it is a command. One of an attached
+/// session that shows or assigns another object than an INTEGER variable without dimensions is refused
+/// with 1; UPDATE is answered `ok`, and after any lines of a script so is an assignment to such a
+/// variable. See docs/LANGUAGE.md, "Refusals".
+pub fn lines_are_answered_in_order()
+    ensures in_order { LinesAreAnswered }
+    ensures others { (coming : List Outcome) → OthersAreRefused coming }
     ensures assigned { (names : List (List ℕ)) (records : List Decoded) (coming : List Outcome) (events : List Event) → CanBeOpened records → AssignmentsAreDone coming (world_at names records coming events) }
+    ensures updated { (names : List (List ℕ)) (records : List Decoded) (coming : List Outcome) (events : List Event) → UpdatesAreDone coming (world_at names records coming events) }
 {}
 
-/// Before the definitions are closed, a definition line is refused with the first of these that
-/// applies: 1 where it is of no form; 7 where its name is there; 14 where there are 4,096 objects or
-/// more than 6 dimensions are written; 2 with the first name in it that isn't defined; 3 with the
-/// first object in it that is no dimension; 7 with the first dimension that comes again in a variable.
-/// Else its definition, with numbers for the names, is the last one from then on. Once they are closed
-/// each definition line is refused with 21. See docs/LANGUAGE.md, 'Definitions'.
+/// The last line of a definition is refused, before the definitions are closed, by the first of these
+/// that applies: a line that is too long or has a byte that no line has (27); the first line with a
+/// syntax fault (1), or with a word that no program has (24); the name is there (7); there are 4,096
+/// objects or more than 6 dimensions are written (14); then the first name in it that isn't defined
+/// (2), the first object in it that is no dimension (3), and the first dimension that comes again in a
+/// variable (7). A formula, a program and an aggmap can't be defined yet (1). Else the definition, with
+/// numbers for the names, is the last one from then on. Once they are closed it is refused with 27 or
+/// 21. Any other line of a block waits for the last one. See docs/LANGUAGE.md, 'Definitions'.
 pub fn definitions_are_answered()
-    ensures in_order { (names : List (List ℕ)) (records : List Decoded) (coming : List Outcome) (events : List Event) → let w = world_at names records coming events in w.shared ≡ None → (text : List ℕ) (d : Definition) → line_form text ≡ form.Definition (Some d) → AnswersDefinition coming w text d }
-    ensures formless { (names : List (List ℕ)) (records : List Decoded) (coming : List Outcome) (events : List Event) → let w = world_at names records coming events in w.shared ≡ None → (text : List ℕ) → line_form text ≡ form.Definition None → IsRefused coming w text no_form }
-    ensures closed { (names : List (List ℕ)) (records : List Decoded) (coming : List Outcome) (events : List Event) → let w = world_at names records coming events in IsSome w.shared → (text : List ℕ) (found : Option Definition) → line_form text ≡ form.Definition found → IsRefused coming w text definitions_closed }
+    ensures ended { (coming : List Outcome) (w : HistoryWorld) → DefinitionsAreAnswered coming w }
+    ensures open { (coming : List Outcome) (w : HistoryWorld) → BlocksAreOpen coming w }
 {}
 
 /// A refused line changes nothing: the definitions, the commits, the owners and what each session
@@ -209,8 +211,8 @@ pub fn lines_give_back_the_script()
     ensures { (script : List ℕ) → LinesAreSplit script }
 {}
 
-/// A line with a session's command is answered by a turn of this session: what the laws on commands
-/// say of turns, they say of lines. See docs/SHARING.md, 'What is proved'.
+/// A session's line is answered by a turn of this session, or refused and leaves it: what the laws on
+/// commands say of turns, they say of lines. See docs/SHARING.md, 'What is proved'.
 pub fn lines_take_turns()
     ensures { (coming : List Outcome) (w : HistoryWorld) → LinesTakeTurns coming w }
 {}

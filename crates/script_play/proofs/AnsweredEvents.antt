@@ -15,8 +15,7 @@ use Rattle.ses_step.specs.Answers.{answer_of, is_refusal}
 use Rattle.script_world.specs.Outcomes.{Outcome, faulted, Attempt, among, all_attempts, attempts_of, used}
 use Rattle.script_world.specs.LearntOutcomes.{AnswersEvent}
 use Rattle.script_world.specs.Laws.{SameOf}
-use Rattle.script_world.specs.Worlds as script
-use Rattle.script_world.specs.Worlds.{World, Event, with_shared, Answered, is_refused, answered, text_of, world_after}
+use Rattle.script_world.specs.Worlds.{World, Event, Answered, is_refused, answered, text_of}
 use Rattle.script_world.proofs.callers.LearntOutcomes.{tells-behind, runs_on}
 use Rattle.script_world.proofs.callers.Appending.{world_after-append}
 use Rattle.script_world.proofs.callers.UnusedOutcomes.{list_told_once}
@@ -31,7 +30,7 @@ use Rattle.script_play.specs.declared.stop.Stop.TheVariants.{SinkFault, DiskFaul
 use Rattle.script_play.specs.declared.response.Response.{Response}
 use Rattle.script_play.specs.Runs.{with_last, GrowsBehind, defining}
 use Rattle.script_play.specs.inside.StoreWorlds.{world_of, open_store, on_machine, answered_by}
-use Rattle.script_play.specs.inside.LineSteps.{joined, event_means, line_means, Moves, Responds, Takes, Wants, FailsToOpen}
+use Rattle.script_play.specs.inside.LineSteps.{joined, event_means, Moves, Responds, Takes, Wants, FailsToOpen}
 use Rattle.script_play.specs.inside.Playing.{said_of, refuses_of, CutIn, RespondedSo, Stands, HasDone, ClosesWith, WasCut, HasFailed, HasStopped}
 use Rattle.script_play.proofs.LineSteps.{few-append, later-then}
 
@@ -123,9 +122,6 @@ module _ {D : Type 0} (faults clock : D → ℕ) (crash : D → ℕ → List ℕ
   pub done_event : (event : Event) (response : Option Response) (events : List Event) (text : List ℕ) (refused : Bool) (old new : StoreWorld (StoreState D)) → HasDone faults clock crash records at events text refused old → Responds faults clock crash (event_means event) response old new → HasDone faults clock crash records at (events ++ event ∷ []) (text ++ said_of response) (refused || refuses_of response) new
   done_event event response events text refused old new d a = (done_told event response events text refused old new d a).0
 
-  pub done_line : (line : List ℕ) (response : Option Response) (events : List Event) (text : List ℕ) (refused : Bool) (old new : StoreWorld (StoreState D)) → HasDone faults clock crash records at events text refused old → Responds faults clock crash (line_means line) response old new → HasDone faults clock crash records at (events ++ script.line line ∷ []) (text ++ said_of response) (refused || refuses_of response) new
-  done_line line response events text refused old new d a = done_event (script.line line) response events text refused old new d a
-
   -- ---- a failure to write the definitions
 
   -- nothing was attempted, and no outcome told
@@ -138,7 +134,7 @@ module _ {D : Type 0} (faults clock : D → ℕ) (crash : D → ℕ → List ℕ
       empty [] is = refl
       empty (outcome ∷ coming) is = absurd (omega (arith, is))
 
-  pub failed_so : (all events rest : List Event) (next : Event) (text : List ℕ) (refused : Bool) (old new : StoreWorld (StoreState D)) (before now : Option (List ℕ)) → all ≡ (events ++ next ∷ []) ++ rest → ClosesWith old.drafted next → HasDone faults clock crash records at events text refused old → FailsToOpen faults clock crash old new → Grows before now text → HasFailed faults clock crash records at all new.store before now
+  pub failed_so : (all events rest : List Event) (next : Event) (text : List ℕ) (refused : Bool) (old new : StoreWorld (StoreState D)) (before now : Option (List ℕ)) → all ≡ (events ++ next ∷ []) ++ rest → ClosesWith old next → HasDone faults clock crash records at events text refused old → FailsToOpen faults clock crash old new → Grows before now text → HasFailed faults clock crash records at all new.store before now
   failed_so all events rest next text refused old new before now front closes d fails grows =
       let nothing = unattempted events text refused old d fails.unopened in
       let last : List (Attempt Decoded) = defining old.drafted faulted ∷ [] in
@@ -159,99 +155,93 @@ module _ {D : Type 0} (faults clock : D → ℕ) (crash : D → ℕ → List ℕ
         written = grows;
       }
 
-  -- ---- a line that has no answer
+  -- ---- an event that has no answer
 
-  cut-in : (line : List ℕ) (lines : List Event) (text : List ℕ) (refused : Bool) (old new : StoreWorld (StoreState D)) (before middle now : Option (List ℕ)) → HasDone faults clock crash records at lines text refused old → Grows before middle text → CutIn faults clock crash line old new middle now → WasCut faults clock crash records at (lines ++ script.line line ∷ []) new.store before now
-  cut-in line lines text refused old new before middle now d grows c = record {
-    events = lines;
+  cut-in : (event : Event) (events : List Event) (text : List ℕ) (refused : Bool) (old new : StoreWorld (StoreState D)) (before middle now : Option (List ℕ)) → HasDone faults clock crash records at events text refused old → Grows before middle text → CutIn faults clock crash event old new middle now → WasCut faults clock crash records at (events ++ event ∷ []) new.store before now
+  cut-in event events text refused old new before middle now d grows c = record {
+    events = events;
     last = Some event;
     rest = [];
-    front = sym (append-nil (lines ++ event ∷ []));
+    front = sym (append-nil (events ++ event ∷ []));
     coming = after.0.coming;
     made = all_attempts after.0.opened after.0.tried;
-    attempted = done_attempts (lines ++ event ∷ []) (text ++ said_of c.response) (refused || refuses_of c.response) new after.0;
-    written = subst (λ (coming : List Outcome). GrowsBehind before now (text_of (by_objects coming) start lines) (answered (by_objects coming) (objects_at [] records coming lines) event).text) (sym after.1)
+    attempted = done_attempts (events ++ event ∷ []) (text ++ said_of c.response) (refused || refuses_of c.response) new after.0;
+    written = subst (λ (coming : List Outcome). GrowsBehind before now (text_of (by_objects coming) start events) (answered (by_objects coming) (objects_at [] records coming events) event).text) (sym after.1)
         (subst₂ (GrowsBehind before now) (sym (told.text ∙ d.run.due)) (sym said) (grows_behind grows c.written));
     stands = after.0.stands;
   }
     where
-      event : Event
-      event = script.line line
-
       start : ObjectsWorld
       start = opening_objects [] records
 
       all : List Outcome
       all = d.coming ++ c.answers.told
 
-      after : (after : HasDone faults clock crash records at (lines ++ event ∷ []) (text ++ said_of c.response) (refused || refuses_of c.response) new) × (after.coming ≡ all)
-      after = done_told event c.response lines text refused old new d c.answers
+      after : (after : HasDone faults clock crash records at (events ++ event ∷ []) (text ++ said_of c.response) (refused || refuses_of c.response) new) × (after.coming ≡ all)
+      after = done_told event c.response events text refused old new d c.answers
 
-      told : SameOf (by_objects d.coming) (by_objects all) start lines
-      told = later_told lines text refused old d c.answers.told
+      told : SameOf (by_objects d.coming) (by_objects all) start events
+      told = later_told events text refused old d c.answers.told
 
-      said : (answered (by_objects all) (objects_at [] records all lines) event).text ≡ said_of c.response
+      said : (answered (by_objects all) (objects_at [] records all events) event).text ≡ said_of c.response
       said =
           ap (λ (w : ObjectsWorld). (answered (by_objects all) w event).text) (told.world ∙ d.run.world)
           ∙ ap (λ (a : Answered language ObjectsDisk). a.text) (c.answers.means_so (among all) d.opened d.tried d.is_made (tells-behind d.coming c.answers.told (length d.tried) (sym d.run.as_many)) ∙ answered-as c.response (on_machine (joined d.opened c.answers.opening) (d.tried ++ c.answers.more) new))
 
-  -- nothing was attempted for the lines that are left
-  pub cut_before : (all lines rest : List Event) (text : List ℕ) (refused : Bool) (old : StoreWorld (StoreState D)) (store : StoreState D) (before now : Option (List ℕ)) → all ≡ lines ++ rest → HasDone faults clock crash records at lines text refused old → store ≡ old.store → Grows before now text → WasCut faults clock crash records at all store before now
-  cut_before all lines rest text refused old store before now front d same grows = record {
-    events = lines;
+  -- nothing was attempted for the events that are left
+  pub cut_before : (all events rest : List Event) (text : List ℕ) (refused : Bool) (old : StoreWorld (StoreState D)) (store : StoreState D) (before now : Option (List ℕ)) → all ≡ events ++ rest → HasDone faults clock crash records at events text refused old → store ≡ old.store → Grows before now text → WasCut faults clock crash records at all store before now
+  cut_before all events rest text refused old store before now front d same grows = record {
+    events = events;
     last = None;
     rest = rest;
     front = front;
     coming = d.coming;
     made = all_attempts d.opened d.tried;
-    attempted = done_attempts lines text refused old d;
+    attempted = done_attempts events text refused old d;
     written = grows_whole (subst (Grows before now) (sym d.run.due) grows);
     stands = subst (Stands faults clock crash records at d.coming (all_attempts d.opened d.tried)) (sym same) d.stands;
   }
 
-  -- the line was taken up and made its attempts, and nothing was written of it
-  taken-in : (line : List ℕ) (lines : List Event) (text : List ℕ) (refused : Bool) (old new : StoreWorld (StoreState D)) (before now : Option (List ℕ)) → HasDone faults clock crash records at lines text refused old → Grows before now text → Takes faults clock crash (line_means line) old new → WasCut faults clock crash records at (lines ++ script.line line ∷ []) new.store before now
-  taken-in line lines text refused old new before now d grows t = record {
-    events = lines;
+  -- the event was taken up and made its attempts, and nothing was written of it
+  taken-in : (event : Event) (events : List Event) (text : List ℕ) (refused : Bool) (old new : StoreWorld (StoreState D)) (before now : Option (List ℕ)) → HasDone faults clock crash records at events text refused old → Grows before now text → Takes faults clock crash (event_means event) old new → WasCut faults clock crash records at (events ++ event ∷ []) new.store before now
+  taken-in event events text refused old new before now d grows t = record {
+    events = events;
     last = Some event;
     rest = [];
-    front = sym (append-nil (lines ++ event ∷ []));
+    front = sym (append-nil (events ++ event ∷ []));
     coming = all;
     made = all_attempts d.opened d.tried ++ t.more;
-    attempted = ap (λ (w : ObjectsWorld). attempts_of w.shared) (world_after-append (by_objects all) start lines (event ∷ [])) ∙ made;
+    attempted = ap (λ (w : ObjectsWorld). attempts_of w.shared) (world_after-append (by_objects all) start events (event ∷ [])) ∙ made;
     written = grows_whole (subst (Grows before now) (sym (told.text ∙ d.run.due)) grows);
     stands = stands-moves d.coming t.told (all_attempts d.opened d.tried) t.more old.store new.store d.stands t.moves;
   }
     where
-      event : Event
-      event = script.line line
-
       start : ObjectsWorld
       start = opening_objects [] records
 
       all : List Outcome
       all = d.coming ++ t.told
 
-      told : SameOf (by_objects d.coming) (by_objects all) start lines
-      told = later_told lines text refused old d t.told
+      told : SameOf (by_objects d.coming) (by_objects all) start events
+      told = later_told events text refused old d t.told
 
-      made : attempts_of (answered (by_objects all) (objects_at [] records all lines) event).world.shared ≡ all_attempts d.opened d.tried ++ t.more
+      made : attempts_of (answered (by_objects all) (objects_at [] records all events) event).world.shared ≡ all_attempts d.opened d.tried ++ t.more
       made =
           ap (λ (w : ObjectsWorld). attempts_of (answered (by_objects all) w event).world.shared) (told.world ∙ d.run.world)
           ∙ t.made_so (among all) d.opened d.tried d.is_made (tells-behind d.coming t.told (length d.tried) (sym d.run.as_many))
 
-  wanted-in : (line : List ℕ) (lines : List Event) (text : List ℕ) (refused : Bool) (old new : StoreWorld (StoreState D)) (before now : Option (List ℕ)) → HasDone faults clock crash records at lines text refused old → Grows before now text → Wants faults clock crash (line_means line) old new → WasCut faults clock crash records at (lines ++ script.line line ∷ []) new.store before now
-  wanted-in line lines text refused old new before now d grows wants =
-      ⊎_elim (λ same. cut_before (lines ++ script.line line ∷ []) lines (script.line line ∷ []) text refused old new.store before now refl d same grows) (taken-in line lines text refused old new before now d grows) wants
+  wanted-in : (event : Event) (events : List Event) (text : List ℕ) (refused : Bool) (old new : StoreWorld (StoreState D)) (before now : Option (List ℕ)) → HasDone faults clock crash records at events text refused old → Grows before now text → Wants faults clock crash (event_means event) old new → WasCut faults clock crash records at (events ++ event ∷ []) new.store before now
+  wanted-in event events text refused old new before now d grows wants =
+      ⊎_elim (λ same. cut_before (events ++ event ∷ []) events (event ∷ []) text refused old new.store before now refl d same grows) (taken-in event events text refused old new before now d grows) wants
 
-  pub stopped_line : (stop : Stop) (line : List ℕ) (lines : List Event) (text : List ℕ) (refused : Bool) (old new : StoreWorld (StoreState D)) (before middle now : Option (List ℕ)) → HasDone faults clock crash records at lines text refused old → Grows before middle text → RespondedSo faults clock crash line (Err stop) old new middle now → HasStopped faults clock crash records at stop (lines ++ script.line line ∷ []) new.store before now
-  stopped_line SinkFault line lines text refused old new before middle now d grows it = cut-in line lines text refused old new before middle now d grows it
-  stopped_line NoMemory line lines text refused old new before middle now d grows it =
-      ⊎_elim (cut-in line lines text refused old new before middle now d grows) (λ wants. wanted-in line lines text refused old new before now d (subst (λ known. Grows before known text) (sym wants.1) grows) wants.0) it
-  stopped_line DiskFault line lines text refused old new before middle now d grows it =
-      failed_so (lines ++ script.line line ∷ []) lines [] (script.line line) text refused old new before now (sym (append-nil (lines ++ script.line line ∷ []))) it.2 d it.0 (subst (λ known. Grows before known text) (sym it.1) grows)
+  pub stopped_event : (stop : Stop) (event : Event) (events : List Event) (text : List ℕ) (refused : Bool) (old new : StoreWorld (StoreState D)) (before middle now : Option (List ℕ)) → HasDone faults clock crash records at events text refused old → Grows before middle text → RespondedSo faults clock crash event (Err stop) old new middle now → HasStopped faults clock crash records at stop (events ++ event ∷ []) new.store before now
+  stopped_event SinkFault event events text refused old new before middle now d grows it = cut-in event events text refused old new before middle now d grows it
+  stopped_event NoMemory event events text refused old new before middle now d grows it =
+      ⊎_elim (cut-in event events text refused old new before middle now d grows) (λ wants. wanted-in event events text refused old new before now d (subst (λ known. Grows before known text) (sym wants.1) grows) wants.0) it
+  stopped_event DiskFault event events text refused old new before middle now d grows it =
+      failed_so (events ++ event ∷ []) events [] event text refused old new before now (sym (append-nil (events ++ event ∷ []))) it.2 d it.0 (subst (λ known. Grows before known text) (sym it.1) grows)
 
-  -- the same, of more lines
+  -- the same, of more events
   pub stopped_more : (stop : Stop) (all more longer : List Event) (store : StoreState D) (before now : Option (List ℕ)) → longer ≡ all ++ more → HasStopped faults clock crash records at stop all store before now → HasStopped faults clock crash records at stop longer store before now
   stopped_more SinkFault all more longer store before now is it = record { events = it.events; last = it.last; rest = it.rest ++ more; front = longer-front all (with_last it.events it.last) it.rest more longer is it.front; coming = it.coming; made = it.made; attempted = it.attempted; written = it.written; stands = it.stands }
   stopped_more NoMemory all more longer store before now is it = record { events = it.events; last = it.last; rest = it.rest ++ more; front = longer-front all (with_last it.events it.last) it.rest more longer is it.front; coming = it.coming; made = it.made; attempted = it.attempted; written = it.written; stands = it.stands }

@@ -16,7 +16,7 @@ use Rattle.script_world.specs.Worlds.{Closes, Event, line, block_ends, script_en
 use Rattle.script_meaning.specs.ObjectsSimulation.{standing_disk, objects_at}
 use Rattle.script_meaning.specs.StoreAttempts.{HasAttempted}
 use Rattle.script_meaning.specs.Transcript.{HoldsLeft, opening, world_at, attempts, SameRecords}
-use Rattle.script_meaning.specs.Language.{form_of, is_any, HistoryDisk, HistoryWorld, ObjectsWorld, by_history, by_objects}
+use Rattle.script_meaning.specs.Language.{form_of, form, is_any, HistoryDisk, HistoryWorld, ObjectsWorld, by_history, by_objects}
 use Rattle.script_meaning.specs.StoreRuns.{store_disk, IsRun}
 use Rattle.script_meaning.proofs.callers.AttemptCrashes.{fares_opened, fares_final}
 use Rattle.script_meaning.proofs.callers.ObjectsSimulation.{are_alike, answered_alike}
@@ -48,11 +48,12 @@ unopened-as : (found : Option HistoryDisk) → option_map standing_disk found �
 unopened-as None none = refl
 unopened-as (Some disk) none = absurd (none-some (standing_disk disk) (sym none))
 
--- an event that closes these definitions
-closes_as : (w : HistoryWorld) (definitions : List Def) (next : Event) → w.definitions ≡ definitions → ClosesWith definitions next → Closes w next
-closes_as w definitions (line text) same it = inl (ap (λ form. is_some (session_in w (form_of form))) it.is)
-closes_as w definitions block_ends same it = absurd it
-closes_as w definitions script_ends same it = inr (refl, ap is_any same ∙ it)
+-- an event that closes the definitions
+closes_as : {D : Type 0} (w : HistoryWorld) (world : StoreWorld (StoreState D)) (next : Event) → w.definitions ≡ world.drafted → w.open_lines ≡ world.open_lines → ClosesWith world next → Closes w next
+closes_as w world (line text) same lines it =
+    inl (ap (λ (those : List (List ℕ)). is_some (session_in w (form those text))) (lines ∙ it.1) ∙ ap (λ those. is_some (session_in w (form_of text those))) it.0.is)
+closes_as w world block_ends same lines it = absurd it
+closes_as w world script_ends same lines it = inr (refl, ap is_any same ∙ it)
 
 module _ {D : Type 0} (faults clock : D → ℕ) (crash : D → ℕ → List ℕ → Type 0) (records : List Decoded) (at : D) where
   -- how a run ended, over the commits and the owners
@@ -152,7 +153,7 @@ module _ {D : Type 0} (faults clock : D → ℕ) (crash : D → ℕ → List ℕ
           wrote = subst (Grows s.written_before s.written_now) (sym run.text_is) it.written;
           no_commits = refl;
           unopened = unopened-as (world_at [] records [] it.events).shared (ap (λ (w : ObjectsWorld). w.shared) same ∙ ap (option_map (store_disk None [])) (ap (option_map (λ (those : List Def). it.w.store)) it.unopened));
-          closes = closes_as (world_at [] records [] it.events) it.w.drafted it.next defined it.closes;
+          closes = closes_as (world_at [] records [] it.events) it.w it.next defined (ap (λ (w : ObjectsWorld). w.open_lines) same) it.closes;
           attempted = ap (λ (those : List Def). defining those faulted ∷ []) (sym defined);
         };
         stands = it.stands;
@@ -284,10 +285,10 @@ module _ {D : Type 0} (faults clock : D → ℕ) (crash : D → ℕ → List ℕ
   pub disk_rose : (records : List Decoded) (at : D) (s : Streams) (store : StoreState D) → EndsRun faults clock crash records at DiskFault s store → Rose (faults at) (faults store.disk)
   disk_rose records at s store it = ⊎_elim (λ off. off.stopped.rose) (λ off. off.stopped.rose) it
 
-  pub opened_as : (play : Play D) (store : StoreState D) (drafted : List Def) (names : List (List ℕ)) (sessions : List Session) → play ≡ record { world = record { drafted = drafted; store = store; names = names; sessions = sessions }; line = []; refused = false } → drafted ≡ [] → names ≡ [] → sessions ≡ [] → play ≡ opened_play store
-  opened_as play store drafted names sessions is undrafted named none =
-      let of : List Def → List (List ℕ) → List Session → Play D = λ drafted names sessions. record { world = record { drafted = drafted; store = store; names = names; sessions = sessions }; line = []; refused = false } in
-      is ∙ ap (λ those. of those names sessions) undrafted ∙ ap (λ those. of [] those sessions) named ∙ ap (of [] []) none
+  pub opened_as : (play : Play D) (store : StoreState D) (drafted : List Def) (lines names : List (List ℕ)) (sessions : List Session) → play ≡ record { world = record { drafted = drafted; open_lines = lines; store = store; names = names; sessions = sessions }; line = []; refused = false } → drafted ≡ [] → lines ≡ [] → names ≡ [] → sessions ≡ [] → play ≡ opened_play store
+  opened_as play store drafted lines names sessions is undrafted whole named none =
+      let of : List Def → List (List ℕ) → List (List ℕ) → List Session → Play D = λ drafted lines names sessions. record { world = record { drafted = drafted; open_lines = lines; store = store; names = names; sessions = sessions }; line = []; refused = false } in
+      is ∙ ap (λ those. of those lines names sessions) undrafted ∙ ap (λ those. of [] those names sessions) whole ∙ ap (λ those. of [] [] those sessions) named ∙ ap (of [] [] []) none
 
   pub sound_as : (play : Play D) (store : StoreState D) → play ≡ opened_play store → IsSound play.world
   sound_as play store is = subst (λ (p : Play D). IsSound p.world) (sym is) (opened_sound store)

@@ -11,17 +11,17 @@ use Rattle.script_world.proofs.callers.ScriptLaws.{open_line-push}
 use Rattle.script_play.specs.declared.stop.Stop.{Stop}
 use Rattle.script_play.specs.declared.stop.Stop.TheVariants.{NoMemory}
 use Rattle.script_play.specs.inside.Playing.{Play, said_of, refuses_of, Responded, RespondedSo, HasDone, HasPlayed, HasStopped, Feeds, StopsIn}
-use Rattle.script_play.proofs.AnsweredEvents.{done_line, cut_before, stopped_line, stopped_more}
+use Rattle.script_play.proofs.AnsweredEvents.{done_event, cut_before, stopped_event, stopped_more}
 
 module _ {D : Type 0} (faults clock : D → ℕ) (crash : D → ℕ → List ℕ → Type 0) where
   -- a line ended that is the open one without its carriage return
-  pub Feeds-answered : (old new : Play D) (middle now : Option (List ℕ)) (text : List ℕ) (refused : Bool) → text ≡ strip_carriage_return old.line → Responded faults clock crash text refused old.world new.world middle now → new.refused ≡ (old.refused || refused) → new.line ≡ [] → Feeds faults clock crash (10 ∷ []) old middle new now
+  pub Feeds-answered : (old new : Play D) (middle now : Option (List ℕ)) (text : List ℕ) (refused : Bool) → text ≡ strip_carriage_return old.line → Responded faults clock crash (script.line text) refused old.world new.world middle now → new.refused ≡ (old.refused || refused) → new.line ≡ [] → Feeds faults clock crash (10 ∷ []) old middle new now
   Feeds-answered old new middle now text refused is r refuses none = record {
     plays = λ records at taken before h.
         let same : text ≡ strip_carriage_return (open_line taken) = is ∙ ap strip_carriage_return h.line in
         let lines : ended_events taken ++ script.line text ∷ [] ≡ ended_events (taken ++ 10 ∷ []) = ap (λ last. ended_events taken ++ script.line last ∷ []) same ∙ sym (ended_events-push taken 10) in
         let all : (old.refused || refuses_of r.response) ≡ new.refused = ap (λ it. old.refused || it) (sym r.refuses) ∙ sym refuses in
-        let did : HasDone faults clock crash records at (ended_events taken ++ script.line text ∷ []) (h.text ++ said_of r.response) (old.refused || refuses_of r.response) new.world = done_line faults clock crash records at text r.response (ended_events taken) h.text old.refused old.world new.world h.lines r.answers in
+        let did : HasDone faults clock crash records at (ended_events taken ++ script.line text ∷ []) (h.text ++ said_of r.response) (old.refused || refuses_of r.response) new.world = done_event faults clock crash records at (script.line text) r.response (ended_events taken) h.text old.refused old.world new.world h.lines r.answers in
         record {
           text = h.text ++ said_of r.response;
           lines = subst (λ those. HasDone faults clock crash records at those (h.text ++ said_of r.response) new.refused new.world) lines (subst (λ it. HasDone faults clock crash records at (ended_events taken ++ script.line text ∷ []) (h.text ++ said_of r.response) it new.world) all did);
@@ -30,12 +30,12 @@ module _ {D : Type 0} (faults clock : D → ℕ) (crash : D → ℕ → List ℕ
         };
   }
 
-  pub StopsIn-answered : (stop : Stop) (old new : Play D) (middle now : Option (List ℕ)) (text : List ℕ) → text ≡ strip_carriage_return old.line → RespondedSo faults clock crash text (Err stop) old.world new.world middle now → StopsIn faults clock crash stop (10 ∷ []) old middle new now
+  pub StopsIn-answered : (stop : Stop) (old new : Play D) (middle now : Option (List ℕ)) (text : List ℕ) → text ≡ strip_carriage_return old.line → RespondedSo faults clock crash (script.line text) (Err stop) old.world new.world middle now → StopsIn faults clock crash stop (10 ∷ []) old middle new now
   StopsIn-answered stop old new middle now text is r = record {
     stops = λ records at taken before h.
         let same : text ≡ strip_carriage_return (open_line taken) = is ∙ ap strip_carriage_return h.line in
         let lines : ended_events taken ++ script.line text ∷ [] ≡ ended_events (taken ++ 10 ∷ []) = ap (λ last. ended_events taken ++ script.line last ∷ []) same ∙ sym (ended_events-push taken 10) in
-        subst (λ those. HasStopped faults clock crash records at stop those new.world.store before now) lines (stopped_line faults clock crash records at stop text (ended_events taken) h.text old.refused old.world new.world before middle now h.lines h.written r);
+        subst (λ those. HasStopped faults clock crash records at stop those new.world.store before now) lines (stopped_event faults clock crash records at stop (script.line text) (ended_events taken) h.text old.refused old.world new.world before middle now h.lines h.written r);
   }
 
   -- the line goes on

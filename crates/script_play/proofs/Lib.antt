@@ -1,4 +1,5 @@
 pub mod Drafting
+pub mod LineForms
 pub mod Lines
 pub mod Opening
 pub mod Endings

@@ -17,19 +17,19 @@ use Rattle.aw_journal.specs.Passed.{Passed}
 use Rattle.aw_store.specs.StoredRecords.{HoldsRecords, LeftRecords, definitions_of}
 use Rattle.aw_store.specs.Stores.{StoreState, record_of, Answers, Acts}
 use Rattle.ses_step.specs.declared.answer.Answer.{Answer}
-use Rattle.ses_step.specs.declared.line.Command.{Command}
 use Rattle.ses_step.specs.declared.session.Begun.{Begun}
 use Rattle.ses_step.specs.declared.session.Begun.TheVariants.{Said, Ask}
 use Rattle.ses_step.specs.declared.session.Known.{Known}
-use Rattle.ses_step.specs.Sessions.{Sees, Allows, begun, finished, finished_by, asked_in}
+use Rattle.ses_step.specs.SessionLines.{line_begun}
+use Rattle.ses_step.specs.Sessions.{Sees, Allows, finished, finished_by, asked_in}
 use Rattle.script_world.specs.Outcomes.{has_faulted, Outcome, Attempt, as_done, attempts_of}
 use Rattle.script_world.specs.LearntOutcomes.{Tells}
 use Rattle.script_meaning.specs.StoreAttempts.{done_where, outcomes_told, attempts_ended, act_attempts, ends_at, StoreHasAttempted}
-use Rattle.script_meaning.specs.Language.{ObjectsDisk}
+use Rattle.script_meaning.specs.Language.{Written, ObjectsDisk}
 use Rattle.script_meaning.specs.Transcript.{SameRecords}
 use Rattle.script_meaning.specs.StoreRuns.{store_disk}
 use Rattle.script_meaning.specs.Turns.{Turn, turn_from, replied}
-use Rattle.ses_step.proofs.callers.ViewsOfDefinitions.{sees-begun, sees-finished}
+use Rattle.ses_step.proofs.callers.ViewsOfDefinitions.{sees-line_begun, sees-finished}
 use Rattle.script_meaning.proofs.callers.StoreAttempts.{act_steps, act_fares}
 use Rattle.script_play.specs.inside.StoreWorlds.{definitions_in}
 use Rattle.script_play.specs.inside.LineSteps.{machine, IsOpen, Later, Moves, Asked, Replied, ReplyWants, Turned, TurnTakes, TurnWants}
@@ -102,9 +102,9 @@ length-ended attempted [] = refl
 length-ended attempted (outcome ∷ outcomes) = ap suc (length-ended attempted outcomes)
 
 -- a session that asks sees what it saw
-pub begun-sees : (definitions : List Def) (command : Command) (asked : Entry) (before between : Known) → (Ask asked, between) ≡ begun definitions before command → Sees definitions before → Sees definitions between
-begun-sees definitions command asked before between begins sees =
-    subst (λ (those : Begun × Known). Sees definitions those.1) (sym begins) (sees-begun definitions before command sees)
+pub begun-sees : (definitions : List Def) (its : Written) (asked : Entry) (before between : Known) → (Ask asked, between) ≡ line_begun definitions before its.line its.from → Sees definitions before → Sees definitions between
+begun-sees definitions its asked before between begins sees =
+    subst (λ (those : Begun × Known). Sees definitions those.1) (sym begins) (sees-line_begun definitions before its.line its.from sees)
 
 module _ {D : Type 0} (faults clock : D → ℕ) (crash : D → ℕ → List ℕ → Type 0) where
   -- ---- time
@@ -166,11 +166,11 @@ module _ {D : Type 0} (faults clock : D → ℕ) (crash : D → ℕ → List ℕ
     step = λ next opened tried tells. act_steps next opened tried asked old new reply wants acts tells;
   }
 
-  -- ---- a command
+  -- ---- a line of a session
 
-  -- a command that the session answers alone
-  pub said_turned : (definitions : List Def) (names : List (List ℕ)) (command : Command) (answer : Answer) (before after : Known) (store : StoreState D) → (Said answer, after) ≡ begun definitions before command → Turned faults clock crash definitions names command answer before after store store
-  said_turned definitions names command answer before after store said = record {
+  -- one that the session answers alone
+  pub said_turned : (definitions : List Def) (names : List (List ℕ)) (its : Written) (answer : Answer) (before after : Known) (store : StoreState D) → (Said answer, after) ≡ line_begun definitions before its.line its.from → Turned faults clock crash definitions names its answer before after store store
+  said_turned definitions names its answer before after store said = record {
     told = [];
     more = [];
     as_many = refl;
@@ -178,12 +178,12 @@ module _ {D : Type 0} (faults clock : D → ℕ) (crash : D → ℕ → List ℕ
     turns = λ next opened tried tells.
         ap (turn_from (machine next) definitions names (store_disk opened tried store)) (sym said)
         ∙ ap (λ those. let it : Turn ObjectsDisk = record { answer = answer; session = after; shared = store_disk opened those store } in it) (sym (append-nil tried));
-    keeps_seen = λ sees. subst (λ (those : Begun × Known). Sees definitions those.1) (sym said) (sees-begun definitions before command sees);
+    keeps_seen = λ sees. subst (λ (those : Begun × Known). Sees definitions those.1) (sym said) (sees-line_begun definitions before its.line its.from sees);
   }
 
-  asked-turn : (definitions : List Def) (names : List (List ℕ)) (command : Command) (asked : Entry) (reply : Reply) (before between : Known) (old new : StoreState D) → (Ask asked, between) ≡ begun definitions before command → (asks : Asked faults clock crash asked reply old new) → (next : ℕ → Outcome) (opened : Option Decoded) (tried : List (Attempt Decoded)) → Tells next (length tried) asks.told →
-      turn_from (machine next) definitions names (store_disk opened tried old) (begun definitions before command) ≡ record { answer = (finished definitions names between asked reply).0; session = (finished definitions names between asked reply).1; shared = store_disk opened (tried ++ asks.more) new }
-  asked-turn definitions names command asked reply before between old new begins asks next opened tried tells =
+  asked-turn : (definitions : List Def) (names : List (List ℕ)) (its : Written) (asked : Entry) (reply : Reply) (before between : Known) (old new : StoreState D) → (Ask asked, between) ≡ line_begun definitions before its.line its.from → (asks : Asked faults clock crash asked reply old new) → (next : ℕ → Outcome) (opened : Option Decoded) (tried : List (Attempt Decoded)) → Tells next (length tried) asks.told →
+      turn_from (machine next) definitions names (store_disk opened tried old) (line_begun definitions before its.line its.from) ≡ record { answer = (finished definitions names between asked reply).0; session = (finished definitions names between asked reply).1; shared = store_disk opened (tried ++ asks.more) new }
+  asked-turn definitions names its asked reply before between old new begins asks next opened tried tells =
       ap (turn_from (machine next) definitions names (store_disk opened tried old)) (sym begins)
       ∙ ap (replied (machine next) definitions names between asked) (asks.step next opened tried tells)
 
@@ -202,30 +202,30 @@ module _ {D : Type 0} (faults clock : D → ℕ) (crash : D → ℕ → List ℕ
       is : (answer, after) ≡ finished_by (definitions_in old) names before waits reply
       is = finishes ∙ ap (λ (definitions : List Def). finished_by definitions names before waits reply) kept
 
-  -- a command that asks the store
-  pub replied_turned : (definitions : List Def) (names : List (List ℕ)) (command : Command) (asked : Entry) (answer : Answer) (before between after : Known) (old new : StoreState D) → (Ask asked, between) ≡ begun definitions before command → Replied faults clock crash definitions names asked answer between after old new → Turned faults clock crash definitions names command answer before after old new
-  replied_turned definitions names command asked answer before between after old new begins replied = record {
+  -- one that asks the store
+  pub replied_turned : (definitions : List Def) (names : List (List ℕ)) (its : Written) (asked : Entry) (answer : Answer) (before between after : Known) (old new : StoreState D) → (Ask asked, between) ≡ line_begun definitions before its.line its.from → Replied faults clock crash definitions names asked answer between after old new → Turned faults clock crash definitions names its answer before after old new
+  replied_turned definitions names its asked answer before between after old new begins replied = record {
     told = replied.asks.told;
     more = replied.asks.more;
     as_many = replied.asks.as_many;
     moves = replied.asks.moves;
     turns = λ next opened tried tells.
-        asked-turn definitions names command asked replied.reply before between old new begins replied.asks next opened tried tells
+        asked-turn definitions names its asked replied.reply before between old new begins replied.asks next opened tried tells
         ∙ ap (λ those. let it : Turn ObjectsDisk = record { answer = those.0; session = those.1; shared = store_disk opened (tried ++ replied.asks.more) new } in it) (sym replied.finishes);
-    keeps_seen = λ sees. replied.keeps_seen (begun-sees definitions command asked before between begins sees);
+    keeps_seen = λ sees. replied.keeps_seen (begun-sees definitions its asked before between begins sees);
   }
 
-  pub asked_takes : (definitions : List Def) (names : List (List ℕ)) (command : Command) (asked : Entry) (reply : Reply) (before between : Known) (old new : StoreState D) → (Ask asked, between) ≡ begun definitions before command → Asked faults clock crash asked reply old new → TurnTakes faults clock crash definitions names command before old new
-  asked_takes definitions names command asked reply before between old new begins asks = record {
+  pub asked_takes : (definitions : List Def) (names : List (List ℕ)) (its : Written) (asked : Entry) (reply : Reply) (before between : Known) (old new : StoreState D) → (Ask asked, between) ≡ line_begun definitions before its.line its.from → Asked faults clock crash asked reply old new → TurnTakes faults clock crash definitions names its before old new
+  asked_takes definitions names its asked reply before between old new begins asks = record {
     told = asks.told;
     more = asks.more;
     as_many = asks.as_many;
     moves = asks.moves;
     made_so = λ next opened tried tells.
-        ap (λ (t : Turn ObjectsDisk). attempts_of (Some t.shared)) (asked-turn definitions names command asked reply before between old new begins asks next opened tried tells) ∙ sym (append_assoc (map as_done (option_to_list opened)) tried asks.more);
+        ap (λ (t : Turn ObjectsDisk). attempts_of (Some t.shared)) (asked-turn definitions names its asked reply before between old new begins asks next opened tried tells) ∙ sym (append_assoc (map as_done (option_to_list opened)) tried asks.more);
   }
 
   -- for want of memory there is no answer by the reply
-  pub asked_wants : (definitions : List Def) (names : List (List ℕ)) (command : Command) (asked : Entry) (before between : Known) (old new : StoreState D) → (Ask asked, between) ≡ begun definitions before command → ReplyWants faults clock crash asked old new → TurnWants faults clock crash definitions names command before old new
-  asked_wants definitions names command asked before between old new begins wants =
-      ⊎_elim inl (λ replied. inr (asked_takes definitions names command asked replied.0 before between old new begins replied.1)) wants
+  pub asked_wants : (definitions : List Def) (names : List (List ℕ)) (its : Written) (asked : Entry) (before between : Known) (old new : StoreState D) → (Ask asked, between) ≡ line_begun definitions before its.line its.from → ReplyWants faults clock crash asked old new → TurnWants faults clock crash definitions names its before old new
+  asked_wants definitions names its asked before between old new begins wants =
+      ⊎_elim inl (λ replied. inr (asked_takes definitions names its asked replied.0 before between old new begins replied.1)) wants

@@ -2,7 +2,8 @@ ghost use Rattle.std.specs.Prelude.{◌≡◌, ◌∷◌, ◌≤◌, [], false, 
 ghost use Rattle.std.specs.Str.Lines.{strip_carriage_return};
 ghost use Rattle.aw_lists.specs.Faults.{Rose};
 ghost use Rattle.script_play.specs.inside.StoreWorlds.{IsSound};
-ghost use Rattle.script_play.specs.inside.Playing.{WritesSo, RespondedSo, FeedsSo, EndsLinesSo, FinishesSo, play_of};
+ghost use Rattle.script_world.specs.Worlds.{block_ends, line as event_line};
+ghost use Rattle.script_play.specs.inside.Playing.{WritesSo, WritesResponse, RespondedSo, FeedsSo, EndsLinesSo, EndsBlockSo, FinishesSo, play_of};
 
 use crate::response::Response;
 use crate::stop::Stop;
@@ -59,6 +60,27 @@ fn write<K: Sink>(
     }
 }
 
+/// Writes what a line or the end of a block is answered, and tells whether that is a refusal. After
+/// an `Err` a front of the answer is written.
+fn write_response<K: Sink>(
+    alloc: Global,
+    response: &Option<Response>,
+    text: &mut Vec<u8>,
+    out: &mut K,
+) -> Result<bool, Stop>
+    ensures writes { WritesResponse response.now result (K.written out.old) (K.written out.new) }
+    ensures later { K.faults out.old ≤ K.faults out.new }
+    ensures cause { result ≡ Err Stop.SinkFault → Rose (K.faults out.old) (K.faults out.new) }
+{
+    match response {
+        Some(response) => match write(alloc, response, text, out) {
+            Ok(refused) => Ok(refused),
+            Err(stop) => Err(stop),
+        },
+        None => Ok(false),
+    }
+}
+
 /// Answers a line, writes the answer, and tells whether the line is refused. After an `Err` a front
 /// of the answer is written.
 fn respond<D: Disk, K: Sink>(
@@ -69,17 +91,38 @@ fn respond<D: Disk, K: Sink>(
     out: &mut K,
 ) -> Result<bool, Stop>
     requires { IsSound world.old }
-    ensures responded { RespondedSo D.faults D.clock D.crash line.now result world.old world.new (K.written out.old) (K.written out.new) }
+    ensures responded { RespondedSo D.faults D.clock D.crash (event_line line.now) result world.old world.new (K.written out.old) (K.written out.new) }
     ensures sound { OnOk result (IsSound world.new) }
     ensures later { K.faults out.old ≤ K.faults out.new }
     ensures cause { result ≡ Err Stop.SinkFault → Rose (K.faults out.old) (K.faults out.new) }
 {
     match world.answer(alloc, line) {
-        Ok(Some(response)) => match write(alloc, &response, text, out) {
+        Ok(response) => match write_response(alloc, &response, text, out) {
             Ok(refused) => Ok(refused),
             Err(stop) => Err(stop),
         },
-        Ok(None) => Ok(false),
+        Err(stop) => Err(stop),
+    }
+}
+
+/// The script has ended: answers a definition that it left open, and tells whether it is refused.
+fn respond_to_end<D: Disk, K: Sink>(
+    alloc: Global,
+    world: &mut StoreWorld<Store<D>>,
+    text: &mut Vec<u8>,
+    out: &mut K,
+) -> Result<bool, Stop>
+    requires { IsSound world.old }
+    ensures responded { RespondedSo D.faults D.clock D.crash block_ends result world.old world.new (K.written out.old) (K.written out.new) }
+    ensures sound { OnOk result (IsSound world.new) }
+    ensures later { K.faults out.old ≤ K.faults out.new }
+    ensures cause { result ≡ Err Stop.SinkFault → Rose (K.faults out.old) (K.faults out.new) }
+{
+    match world.end_block(alloc) {
+        Ok(response) => match write_response(alloc, &response, text, out) {
+            Ok(refused) => Ok(refused),
+            Err(stop) => Err(stop),
+        },
         Err(stop) => Err(stop),
     }
 }
@@ -177,15 +220,35 @@ impl<D: Disk> Player<Store<D>> {
         }
     }
 
-    /// The script has ended: answers its last line, where that has bytes, writes what was only
-    /// defined, and tells whether any line was refused.
+    /// The script has ended: answers its last line, where that has bytes, and a definition that is
+    /// still open, and tells whether any line was refused.
+    fn end_script<K: Sink>(&mut self, out: &mut K) -> Result<bool, Stop>
+        requires { IsSound self.old.world }
+        ensures ends { EndsBlockSo D.faults D.clock D.crash result (play_of self.old) (K.written out.old) self.new.world (K.written out.new) }
+        ensures sound { OnOk result (IsSound self.new.world) }
+        ensures later { K.faults out.old ≤ K.faults out.new }
+        ensures cause { result ≡ Err Stop.SinkFault → Rose (K.faults out.old) (K.faults out.new) }
+    {
+        match self.end_lines(out) {
+            Ok(refused) => {
+                match respond_to_end(self.alloc, &mut self.world, &mut self.text, out) {
+                    Ok(block) => Ok(refused | block),
+                    Err(stop) => Err(stop),
+                }
+            }
+            Err(stop) => Err(stop),
+        }
+    }
+
+    /// The script has ended: answers its last line, where that has bytes, and a definition that is
+    /// still open, writes what was only defined, and tells whether any line was refused.
     pub fn finish<K: Sink>(&mut self, out: &mut K) -> Result<bool, Stop>
         requires { IsSound self.old.world }
         ensures finishes { FinishesSo D.faults D.clock D.crash result (play_of self.old) (K.written out.old) self.new.world.store (K.written out.new) }
         ensures later { K.faults out.old ≤ K.faults out.new }
         ensures cause { result ≡ Err Stop.SinkFault → Rose (K.faults out.old) (K.faults out.new) }
     {
-        match self.end_lines(out) {
+        match self.end_script(out) {
             Ok(refused) => match self.world.finish(self.alloc) {
                 Ok(()) => Ok(refused),
                 Err(stop) => Err(stop),

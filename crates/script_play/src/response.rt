@@ -1,5 +1,5 @@
 ghost use Rattle.std.specs.Prelude.{◌≡◌};
-ghost use Rattle.script_play.specs.inside.StoreWorlds.{refused_response, refusing_response};
+ghost use Rattle.script_play.specs.inside.StoreWorlds.{refusing_response};
 
 use aw_cell::Text;
 use ses_report::Refusal;
@@ -22,12 +22,5 @@ impl Response {
             prefix,
             answer: Answer::Refused(refusal),
         }
-    }
-
-    /// Refusal 1, under a prefix.
-    pub fn refused(prefix: Text) -> Response
-        ensures { result ≡ refused_response prefix }
-    {
-        Response::refusing(prefix, Refusal::no_form())
     }
 }

@@ -1,6 +1,8 @@
-ghost use Rattle.std.specs.Prelude.{◌≡◌, IfOk, OnErr};
+ghost use Rattle.std.specs.Prelude.{◌≡◌, ◌≤◌, IfOk, OnErr, length};
 ghost use Rattle.ses_step.specs.declared.session.Known.{Known as KnownState};
+ghost use Rattle.ses_step.specs.SessionLines.{line_begun};
 ghost use Rattle.ses_step.specs.Sessions as spec;
+ghost use Rattle.script_meaning.specs.Language.{written};
 ghost use Rattle.ses_step.specs.Sessions.{Sees, Allows, asked_in, asked_by};
 ghost use Rattle.script_play.specs.inside.StoreWorlds.{definitions_in};
 ghost use Rattle.script_play.specs.inside.LineSteps.{IsOpen, Asked, Replied, ReplyWants, Turned, TurnWants};
@@ -9,7 +11,7 @@ use aw_cell::Text;
 use aw_disk::Disk;
 use aw_store::Store;
 use mv_core::{Entry, Reply};
-use ses_step::{Answer, Begun, Command, Session};
+use ses_step::{Answer, Begun, Session};
 use std::alloc::{AllocError, Global};
 
 /// Asks the store. Want of memory leaves it as it was.
@@ -25,20 +27,23 @@ fn ask<D: Disk>(store: &mut Store<D>, entry: &Entry) -> Result<Reply, AllocError
     }
 }
 
-/// Begins a command of a session, by the definitions of the store.
+/// Begins a line of a session, by the definitions of the store.
 fn begin<D: Disk>(
     alloc: Global,
     store: &Store<D>,
     session: &mut Session,
-    command: &Command,
+    line: &[u8],
+    from: u32,
 ) -> Result<Begun, AllocError>
     requires closed { IsOpen store.now }
     requires sees { Sees (definitions_in store.now) session.old.known }
-    ensures begun { IfOk result (λ begun. (begun, session.new.known) ≡ spec.begun (definitions_in store.now) session.old.known command.now) }
+    requires short { length line.now ≤ 4096 }
+    requires within { from ≤ length line.now }
+    ensures begun { IfOk result (λ begun. (begun, session.new.known) ≡ line_begun (definitions_in store.now) session.old.known line.now from) }
     ensures keeps { IfOk result (λ begun. session.new.asked ≡ asked_by begun) }
 {
     match store.catalogue() {
-        Some(catalogue) => session.begin(alloc, catalogue, command),
+        Some(catalogue) => session.begin(alloc, catalogue, line, from),
         None => unreachable!(),
     }
 }
@@ -84,20 +89,23 @@ fn ask_and_finish<D: Disk>(
     }
 }
 
-/// A command of a session: it answers, or asks the store and answers by the reply.
+/// A line of a session: it answers, or asks the store and answers by the reply.
 pub fn take_turn<D: Disk>(
     alloc: Global,
     names: &[Text],
     store: &mut Store<D>,
     session: &mut Session,
-    command: &Command,
+    line: &[u8],
+    from: u32,
 ) -> Result<Answer, AllocError>
     requires closed { IsOpen store.old }
     requires sees { Sees (definitions_in store.old) session.old.known }
-    ensures ok { IfOk result (λ answer. Turned D.faults D.clock D.crash (definitions_in store.old) names.now command.now answer session.old.known session.new.known store.old store.new) }
-    ensures err { OnErr result (TurnWants D.faults D.clock D.crash (definitions_in store.old) names.now command.now session.old.known store.old store.new) }
+    requires short { length line.now ≤ 4096 }
+    requires within { from ≤ length line.now }
+    ensures ok { IfOk result (λ answer. Turned D.faults D.clock D.crash (definitions_in store.old) names.now (written line.now from) answer session.old.known session.new.known store.old store.new) }
+    ensures err { OnErr result (TurnWants D.faults D.clock D.crash (definitions_in store.old) names.now (written line.now from) session.old.known store.old store.new) }
 {
-    match begin(alloc, store, session, command)? {
+    match begin(alloc, store, session, line, from)? {
         Begun::Said(answer) => Ok(answer),
         Begun::Ask(entry) => {
             match ask_and_finish(alloc, names, store, session, &entry) {

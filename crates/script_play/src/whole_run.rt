@@ -95,6 +95,7 @@ fn play_over<D: Disk, S: Source, K: Sink>(
     };
     let world = StoreWorld {
         drafted: Catalogue::new(alloc),
+        open_lines: List::new(alloc),
         store,
         names: Names::new(alloc),
         sessions: List::new(alloc),

@@ -1,12 +1,14 @@
-ghost use Rattle.std.specs.Prelude.{◌≡◌, ◌<◌, min, IfOk, OnOk, OnErr, None, Some, is_none, length, Err};
+ghost use Rattle.std.specs.Prelude.{◌≡◌, ◌≢◌, ◌<◌, ◌≤◌, ◌++◌, ◌∷◌, [], min, IfOk, OnOk, OnErr, None, Some, is_none, length, Err};
 ghost use Rattle.aw_store.specs.StoredRecords.{definitions_of};
+ghost use Rattle.ses_step.specs.declared.line.LineForm.TheVariants.{Definition};
+ghost use Rattle.ses_step.specs.Lines.{line_form};
 ghost use Rattle.ses_step.specs.Sessions.{Sees};
+ghost use Rattle.script_meaning.specs.Language.{block_form, form_of, written};
 ghost use Rattle.script_world.specs.Worlds as spec;
-ghost use Rattle.script_play.specs.inside.Drafts.{CanBeSpelled};
 ghost use Rattle.script_play.specs.inside.StoreWorlds.{AllSee, IsSound, JoinsSo, definitions_in, own_known, own_place, placed};
-ghost use Rattle.script_play.specs.inside.LineSteps.{TurnsAt, TurnWants, Answers, Wants, OpensSo, ClosesSo, FinishesWorldSo, RespondsSo, IsOpen, IsOfSession, command_means, session_means, named_means, line_means};
+ghost use Rattle.script_play.specs.inside.LineSteps.{TurnsAt, TurnWants, Answers, Wants, OpensSo, ClosesSo, FinishesWorldSo, Responds, RespondsSo, IsOpen, IsOfSession, definition_means, ended_means, event_means, form_means, turn_means, session_means, named_means, line_means};
 
-use crate::draft::draft_definition;
+use crate::draft::{draft_lines, late};
 use crate::response::Response;
 use crate::stop::Stop;
 use crate::turn::take_turn;
@@ -17,7 +19,7 @@ use aw_schema::Catalogue;
 use aw_store::{Store, StoreFault};
 use core::mem;
 use ses_report::Refusal;
-use ses_step::{Answer, Command, Definition, Line, Names, Session, name_at, read_line};
+use ses_step::{Answer, LineForm, Names, Session, is_end, name_at, opens_block, sort_line};
 use std::alloc::{AllocError, Global};
 
 /// How many sessions a run may have.
@@ -29,6 +31,8 @@ const MOST_SESSIONS: usize = 64;
 #[derive(Drop)]
 pub struct StoreWorld<S> {
     pub drafted: Catalogue,
+    /// The lines so far of a definition that isn't whole yet.
+    pub open_lines: List<List<u8>>,
     pub store: S,
     pub names: Names,
     pub sessions: List<Session>,
@@ -40,18 +44,21 @@ fn no_session() -> Text
     Text::of(b"*").unwrap()
 }
 
-/// A command of the session at a place.
+/// A line of the session at a place.
 fn take_turn_at<D: Disk>(
     alloc: Global,
     world: &mut StoreWorld<Store<D>>,
     who: usize,
-    command: &Command,
+    line: &[u8],
+    from: u32,
 ) -> Result<Answer, AllocError>
     requires here { who < length world.old.sessions }
     requires closed { IsOpen world.old.store }
     requires sees { Sees (definitions_in world.old.store) (own_known world.old who) }
-    ensures ok { IfOk result (λ answer. TurnsAt D.faults D.clock D.crash command.now answer who world.old world.new) }
-    ensures err { OnErr result (TurnWants D.faults D.clock D.crash (definitions_in world.old.store) world.old.names command.now (own_known world.old who) world.old.store world.new.store) }
+    requires short { length line.now ≤ 4096 }
+    requires within { from ≤ length line.now }
+    ensures ok { IfOk result (λ answer. TurnsAt D.faults D.clock D.crash (written line.now from) answer who world.old world.new) }
+    ensures err { OnErr result (TurnWants D.faults D.clock D.crash (definitions_in world.old.store) world.old.names (written line.now from) (own_known world.old who) world.old.store world.new.store) }
 {
     let StoreWorld {
         store,
@@ -60,7 +67,7 @@ fn take_turn_at<D: Disk>(
         ..
     } = world;
     let session = sessions.at_mut(who);
-    match take_turn(alloc, names.as_slice(), store, session, command) {
+    match take_turn(alloc, names.as_slice(), store, session, line, from) {
         Ok(answer) => Ok(answer),
         Err(full) => Err(full),
     }
@@ -77,26 +84,76 @@ impl<D: Disk> StoreWorld<Store<D>> {
         }
     }
 
-    /// Why a definition line is refused, with the definition in it or with none. One that isn't
-    /// refused joins the drafts, which it can until they are written.
+    /// Why the lines of a definition are refused. What isn't refused joins the drafts, which it can
+    /// until they are written.
     fn define(
         &mut self,
         alloc: Global,
-        definition: Option<Definition>,
+        lines: &List<List<u8>>,
     ) -> Result<Option<Refusal>, AllocError>
-        requires { CanBeSpelled self.old.drafted definition }
-        ensures ok { IfOk result (λ refusal. JoinsSo definition refusal self.old self.new) }
+        ensures ok { IfOk result (λ refusal. JoinsSo lines.now refusal self.old self.new) }
         ensures err { OnErr result (self.new ≡ self.old) }
     {
         if !self.is_unopened() {
-            return Ok(Some(Refusal::definitions_closed()));
+            return Ok(Some(late(lines.as_slice())));
         }
-        match definition {
-            Some(definition) => match draft_definition(alloc, &mut self.drafted, &definition) {
-                Ok(refusal) => Ok(refusal),
-                Err(full) => Err(full),
-            },
-            None => Ok(Some(Refusal::no_form())),
+        match draft_lines(alloc, &mut self.drafted, lines) {
+            Ok(refusal) => Ok(refusal),
+            Err(full) => Err(full),
+        }
+    }
+
+    /// Answers the definition that the open lines are.
+    fn define_open(&mut self, alloc: Global) -> Result<Option<Response>, AllocError>
+        requires { IsSound self.old }
+        ensures ok { IfOk result (λ response. Responds D.faults D.clock D.crash definition_means response self.old self.new) }
+        ensures err { OnErr result (self.new.store ≡ self.old.store) }
+    {
+        let lines = mem::replace(&mut self.open_lines, List::new(alloc));
+        match self.define(alloc, &lines) {
+            Ok(Some(refusal)) => Ok(Some(Response::refusing(no_session(), refusal))),
+            Ok(None) => Ok(None),
+            Err(full) => Err(full),
+        }
+    }
+
+    /// Keeps a line of a definition.
+    fn keep_line(&mut self, alloc: Global, line: &[u8]) -> Result<(), AllocError>
+        ensures ok { OnOk result (self.new ≡ record self.old { open_lines = self.old.open_lines ++ line.now ∷ [] }) }
+        ensures err { OnErr result (self.new.store ≡ self.old.store) }
+    {
+        let line = List::from_slice(alloc, line)?;
+        self.open_lines.push(line)
+    }
+
+    /// The last line of a definition: answers all its lines.
+    fn end_definition(&mut self, alloc: Global, line: &[u8]) -> Result<Option<Response>, AllocError>
+        requires { IsSound self.old }
+        ensures ok { IfOk result (λ response. Responds D.faults D.clock D.crash (ended_means line.now) response self.old self.new) }
+        ensures err { OnErr result (self.new.store ≡ self.old.store) }
+    {
+        match self.keep_line(alloc, line) {
+            Ok(()) => {}
+            Err(full) => return Err(full),
+        }
+        match self.define_open(alloc) {
+            Ok(response) => Ok(response),
+            Err(full) => Err(full),
+        }
+    }
+
+    /// The script has ended: a definition that it left open is answered.
+    pub fn end_block(&mut self, alloc: Global) -> Result<Option<Response>, Stop>
+        requires { IsSound self.old }
+        ensures responds { RespondsSo D.faults D.clock D.crash (event_means spec.block_ends) result self.old self.new }
+        ensures never { result ≢ Err Stop.DiskFault }
+    {
+        if self.open_lines.is_empty() {
+            return Ok(None);
+        }
+        match self.define_open(alloc) {
+            Ok(response) => Ok(response),
+            Err(_) => Err(Stop::NoMemory),
         }
     }
 
@@ -172,26 +229,26 @@ impl<D: Disk> StoreWorld<Store<D>> {
         }
     }
 
-    /// What follows the prefix of the session at a place.
-    fn command(
+    /// What a line of the session at a place is answered, under its name.
+    fn turn(
         &mut self,
         alloc: Global,
         who: usize,
-        command: Option<Command>,
+        line: &[u8],
+        from: u32,
     ) -> Result<Response, AllocError>
         requires placed { who < length self.old.sessions }
         requires closed { IsOpen self.old.store }
         requires seen { AllSee (definitions_in self.old.store) self.old.sessions }
-        ensures ok { IfOk result (λ response. Answers D.faults D.clock D.crash (command_means who command) (Some response) self.old self.new) }
-        ensures err { OnErr result (Wants D.faults D.clock D.crash (command_means who command) self.old self.new) }
+        requires short { length line.now ≤ 4096 }
+        requires within { from ≤ length line.now }
+        ensures ok { IfOk result (λ response. Answers D.faults D.clock D.crash (turn_means who (written line.now from)) (Some response) self.old self.new) }
+        ensures err { OnErr result (Wants D.faults D.clock D.crash (turn_means who (written line.now from)) self.old self.new) }
     {
         let prefix = name_at(self.names.as_slice(), who);
-        match command {
-            Some(command) => match take_turn_at(alloc, self, who, &command) {
-                Ok(answer) => Ok(Response { prefix, answer }),
-                Err(full) => Err(full),
-            },
-            None => Ok(Response::refused(prefix)),
+        match take_turn_at(alloc, self, who, line, from) {
+            Ok(answer) => Ok(Response { prefix, answer }),
+            Err(full) => Err(full),
         }
     }
 
@@ -200,13 +257,16 @@ impl<D: Disk> StoreWorld<Store<D>> {
         &mut self,
         alloc: Global,
         name: Text,
-        command: Option<Command>,
+        line: &[u8],
+        from: u32,
     ) -> Result<Response, AllocError>
         requires paired { length self.old.sessions ≡ min (length self.old.names) 64 }
         requires closed { IsOpen self.old.store }
         requires seen { AllSee (definitions_in self.old.store) self.old.sessions }
-        ensures ok { IfOk result (λ response. Answers D.faults D.clock D.crash (session_means name command) (Some response) self.old self.new) }
-        ensures err { OnErr result (Wants D.faults D.clock D.crash (session_means name command) self.old self.new) }
+        requires short { length line.now ≤ 4096 }
+        requires within { from ≤ length line.now }
+        ensures ok { IfOk result (λ response. Answers D.faults D.clock D.crash (session_means name (written line.now from)) (Some response) self.old self.new) }
+        ensures err { OnErr result (Wants D.faults D.clock D.crash (session_means name (written line.now from)) self.old self.new) }
     {
         let who = self.session_place(&name);
         match self.add_session(alloc, name) {
@@ -214,9 +274,10 @@ impl<D: Disk> StoreWorld<Store<D>> {
             Err(full) => return Err(full),
         }
         if who >= MOST_SESSIONS {
-            return Ok(Response::refused(no_session()));
+            let prefix = name_at(self.names.as_slice(), who);
+            return Ok(Response::refusing(prefix, Refusal::too_many_sessions()));
         }
-        match self.command(alloc, who, command) {
+        match self.turn(alloc, who, line, from) {
             Ok(response) => Ok(response),
             Err(full) => Err(full),
         }
@@ -227,13 +288,16 @@ impl<D: Disk> StoreWorld<Store<D>> {
         &mut self,
         alloc: Global,
         name: Text,
-        command: Option<Command>,
+        line: &[u8],
+        from: u32,
     ) -> Result<Option<Response>, Stop>
-        requires { IsSound self.old }
-        ensures responds { RespondsSo D.faults D.clock D.crash (named_means name command) result self.old self.new }
+        requires sound { IsSound self.old }
+        requires short { length line.now ≤ 4096 }
+        requires within { from ≤ length line.now }
+        ensures responds { RespondsSo D.faults D.clock D.crash (named_means name (written line.now from)) result self.old self.new }
     {
         match self.open_once(alloc) {
-            Ok(()) => match self.session_line(alloc, name, command) {
+            Ok(()) => match self.session_line(alloc, name, line, from) {
                 Ok(response) => Ok(Some(response)),
                 Err(_) => Err(Stop::NoMemory),
             },
@@ -241,28 +305,81 @@ impl<D: Disk> StoreWorld<Store<D>> {
         }
     }
 
+    /// A line behind the open ones of a block.
+    fn block_line(&mut self, alloc: Global, line: &[u8]) -> Result<Option<Response>, AllocError>
+        requires { IsSound self.old }
+        ensures ok { IfOk result (λ response. Responds D.faults D.clock D.crash (form_means line.now (block_form line.now)) response self.old self.new) }
+        ensures err { OnErr result (self.new.store ≡ self.old.store) }
+    {
+        if is_end(line) {
+            match self.end_definition(alloc, line) {
+                Ok(response) => Ok(response),
+                Err(full) => Err(full),
+            }
+        } else {
+            match self.keep_line(alloc, line) {
+                Ok(()) => Ok(None),
+                Err(full) => Err(full),
+            }
+        }
+    }
+
+    /// A line that defines an object, or opens a block that does.
+    fn definition_line(
+        &mut self,
+        alloc: Global,
+        line: &[u8],
+    ) -> Result<Option<Response>, AllocError>
+        requires { IsSound self.old }
+        ensures ok { IfOk result (λ response. Responds D.faults D.clock D.crash (form_means line.now (form_of line.now Definition)) response self.old self.new) }
+        ensures err { OnErr result (self.new.store ≡ self.old.store) }
+    {
+        if opens_block(line) {
+            match self.keep_line(alloc, line) {
+                Ok(()) => Ok(None),
+                Err(full) => Err(full),
+            }
+        } else {
+            match self.end_definition(alloc, line) {
+                Ok(response) => Ok(response),
+                Err(full) => Err(full),
+            }
+        }
+    }
+
+    /// A line where no definition is open.
+    fn first_line(&mut self, alloc: Global, line: &[u8]) -> Result<Option<Response>, Stop>
+        requires sound { IsSound self.old }
+        requires whole { self.old.open_lines ≡ [] }
+        ensures responds { RespondsSo D.faults D.clock D.crash (form_means line.now (form_of line.now (line_form line.now))) result self.old self.new }
+        ensures closes { result ≡ Err Stop.DiskFault → IsOfSession line.now }
+    {
+        match sort_line(line) {
+            LineForm::Blank => Ok(None),
+            LineForm::Bad(refusal) => Ok(Some(Response::refusing(no_session(), refusal))),
+            LineForm::Definition => match self.definition_line(alloc, line) {
+                Ok(response) => Ok(response),
+                Err(_) => Err(Stop::NoMemory),
+            },
+            LineForm::Session { name, from } => match self.under_name(alloc, name, line, from) {
+                Ok(response) => Ok(response),
+                Err(stop) => Err(stop),
+            },
+        }
+    }
+
     /// What a line is answered. After an `Err` the world is of no more use, but its store is.
     pub fn answer(&mut self, alloc: Global, line: &[u8]) -> Result<Option<Response>, Stop>
         requires { IsSound self.old }
         ensures responds { RespondsSo D.faults D.clock D.crash (line_means line.now) result self.old self.new }
-        ensures closes { result ≡ Err Stop.DiskFault → IsOfSession line.now }
+        ensures closes { result ≡ Err Stop.DiskFault → IsOfSession line.now × (self.old.open_lines ≡ []) }
     {
-        let form = match read_line(alloc, line) {
-            Ok(form) => form,
-            Err(_) => return Err(Stop::NoMemory),
-        };
-        match form {
-            Line::Blank => Ok(None),
-            Line::Malformed => Ok(Some(Response::refused(no_session()))),
-            Line::Definition(definition) => match self.define(alloc, definition) {
-                Ok(Some(refusal)) => Ok(Some(Response::refusing(no_session(), refusal))),
-                Ok(None) => Ok(None),
-                Err(_) => Err(Stop::NoMemory),
-            },
-            Line::Session { name, command } => match self.under_name(alloc, name, command) {
-                Ok(response) => Ok(response),
-                Err(stop) => Err(stop),
-            },
+        if self.open_lines.is_empty() {
+            return self.first_line(alloc, line);
+        }
+        match self.block_line(alloc, line) {
+            Ok(response) => Ok(response),
+            Err(_) => Err(Stop::NoMemory),
         }
     }
 }

@@ -4,9 +4,13 @@ use Rattle.ses_report.specs.declared.refusal.Detail.{Detail}
 use Rattle.ses_report.specs.declared.refusal.Detail.TheVariants.{Nothing, Column, One, Two, Count}
 use Rattle.ses_report.specs.declared.refusal.Refusal.{Refusal}
 
--- 1: the line is of no form, or names an object that isn't defined
+-- 1: no line or block of this form runs yet
 abbrev pub no_form : Refusal
 no_form = record { number = 1; line = 0; detail = Column 1 }
+
+-- 1: the tokens up to this column begin nothing
+abbrev pub syntax : ℕ → Refusal
+syntax column = record { number = 1; line = 0; detail = Column column }
 
 -- 2: no object of this name is defined
 abbrev pub unknown : List ℕ → Refusal
@@ -15,6 +19,18 @@ unknown name = record { number = 2; line = 0; detail = One name }
 -- 3: the object isn't of the kind that is wanted
 abbrev pub wrong_kind : List ℕ → Refusal
 wrong_kind name = record { number = 3; line = 0; detail = One name }
+
+-- 4: types don't fit
+abbrev pub types_differ : Refusal
+types_differ = record { number = 4; line = 0; detail = Nothing }
+
+-- 5: dimensions don't fit
+abbrev pub dimensions_differ : Refusal
+dimensions_differ = record { number = 5; line = 0; detail = Nothing }
+
+-- 6: the dimension has no such value
+abbrev pub no_value : List ℕ → Refusal
+no_value text = record { number = 6; line = 0; detail = One text }
 
 -- 7: an object of this name is there already, or the dimension comes twice
 abbrev pub repeated : List ℕ → Refusal
@@ -48,6 +64,10 @@ newer object number = record { number = 18; line = 0; detail = Count object numb
 abbrev pub not_acquired : List ℕ → Refusal
 not_acquired object = record { number = 19; line = 0; detail = One object }
 
+-- 20: the session owns the object
+abbrev pub acquired : List ℕ → Refusal
+acquired object = record { number = 20; line = 0; detail = One object }
+
 -- 21: no object can be defined any more
 abbrev pub definitions_closed : Refusal
 definitions_closed = record { number = 21; line = 0; detail = Nothing }
@@ -56,6 +76,22 @@ definitions_closed = record { number = 21; line = 0; detail = Nothing }
 abbrev pub full : List ℕ → Refusal
 full object = record { number = 22; line = 0; detail = One object }
 
+-- 24: the line of a program begins with a word that stands in lines of a session alone
+abbrev pub not_in_a_program : Refusal
+not_in_a_program = record { number = 24; line = 0; detail = Nothing }
+
+-- 27: the line is too long, or has a byte that no line has
+abbrev pub bad_line : Refusal
+bad_line = record { number = 27; line = 0; detail = Nothing }
+
+-- 28: the run has as many sessions as it may have
+abbrev pub too_many_sessions : Refusal
+too_many_sessions = record { number = 28; line = 0; detail = Nothing }
+
 -- 30: the disk failed in a commit
 abbrev pub disk_fault : Refusal
 disk_fault = record { number = 30; line = 0; detail = Nothing }
+
+-- the same in this line of a block
+abbrev pub in_line : ℕ → Refusal → Refusal
+in_line line refusal = record refusal { line = line }

@@ -41,12 +41,18 @@ impl Refusal {
         }
     }
 
-    /// Refusal 1: the line is of no form, or names an object that isn't defined. The detail is
-    /// column 1.
+    /// Refusal 1 for what isn't built yet. The detail is column 1.
     pub fn no_form() -> Refusal
         ensures { result ≡ spec.no_form }
     {
         Refusal::of(1, Detail::Column(1))
+    }
+
+    /// Refusal 1: the tokens up to this column begin nothing.
+    pub fn syntax(column: u32) -> Refusal
+        ensures { result ≡ spec.syntax column }
+    {
+        Refusal::of(1, Detail::Column(column))
     }
 
     /// Refusal 2: no object of this name is defined. The name is given as it was written.
@@ -61,6 +67,27 @@ impl Refusal {
         ensures { result ≡ spec.wrong_kind object }
     {
         Refusal::of(3, Detail::One(object))
+    }
+
+    /// Refusal 4: types don't fit.
+    pub fn types_differ() -> Refusal
+        ensures { result ≡ spec.types_differ }
+    {
+        Refusal::of(4, Detail::Nothing)
+    }
+
+    /// Refusal 5: dimensions don't fit.
+    pub fn dimensions_differ() -> Refusal
+        ensures { result ≡ spec.dimensions_differ }
+    {
+        Refusal::of(5, Detail::Nothing)
+    }
+
+    /// Refusal 6: a dimension has no such value. The text is given as it was written.
+    pub fn no_value(text: Text) -> Refusal
+        ensures { result ≡ spec.no_value text }
+    {
+        Refusal::of(6, Detail::One(text))
     }
 
     /// Refusal 7: an object of this name is there already, or the dimension comes twice. It is given
@@ -120,6 +147,13 @@ impl Refusal {
         Refusal::of(19, Detail::One(object))
     }
 
+    /// Refusal 20: the session owns the object, which is given by its name.
+    pub fn acquired(object: Text) -> Refusal
+        ensures { result ≡ spec.acquired object }
+    {
+        Refusal::of(20, Detail::One(object))
+    }
+
     /// Refusal 21: no object can be defined any more.
     pub fn definitions_closed() -> Refusal
         ensures { result ≡ spec.definitions_closed }
@@ -134,10 +168,38 @@ impl Refusal {
         Refusal::of(22, Detail::One(object))
     }
 
+    /// Refusal 24: a line of a program begins with a word that stands in lines of a session alone.
+    pub fn not_in_a_program() -> Refusal
+        ensures { result ≡ spec.not_in_a_program }
+    {
+        Refusal::of(24, Detail::Nothing)
+    }
+
+    /// Refusal 27: the line is too long, or has a byte that no line has.
+    pub fn bad_line() -> Refusal
+        ensures { result ≡ spec.bad_line }
+    {
+        Refusal::of(27, Detail::Nothing)
+    }
+
+    /// Refusal 28: the run has as many sessions as it may have.
+    pub fn too_many_sessions() -> Refusal
+        ensures { result ≡ spec.too_many_sessions }
+    {
+        Refusal::of(28, Detail::Nothing)
+    }
+
     /// Refusal 30: the disk failed in a commit.
     pub fn disk_fault() -> Refusal
         ensures { result ≡ spec.disk_fault }
     {
         Refusal::of(30, Detail::Nothing)
+    }
+
+    /// The same refusal at a line of a block, whose first line is 1.
+    pub fn in_line(self, line: u32) -> Refusal
+        ensures { result ≡ spec.in_line line self }
+    {
+        Refusal { line, ..self }
     }
 }

@@ -1,8 +1,8 @@
 -- Worked cases: what a line is, and what one session's commands do, by computation.
-use Rattle.std.specs.Prelude.{ℕ, ℤ, ◌≡◌, List, [], ◌∷◌, codes, pos, Some, None}
+use Rattle.std.specs.Prelude.{ℕ, ℤ, ◌≡◌, ◌++◌, true, false, List, [], ◌∷◌, codes, pos}
 use Rattle.std.proofs.Common.{refl}
 use Rattle.aw_cell.specs.declared.cell.Cell.TheVariants.{Int}
-use Rattle.aw_cell.specs.declared.cell.Kind.TheVariants.{Num as Number, Int as Integer, Text as Words, Bool as Truth}
+use Rattle.aw_cell.specs.declared.cell.Kind.TheVariants.{Int as Integer}
 use Rattle.aw_schema.specs.declared.definition.Def.{Def}
 use Rattle.aw_schema.specs.declared.definition.DefKind.{DefKind}
 use Rattle.aw_schema.specs.declared.definition.DefKind.TheVariants.{Valueset, Variable, Formula}
@@ -13,100 +13,61 @@ use Rattle.aw_body.specs.declared.patch.BodyPatch.TheVariants.{Cells as CellPatc
 use Rattle.mv_core.specs.declared.entry.Entry.TheVariants as entry
 use Rattle.mv_core.specs.declared.entry.Reply.{Reply}
 use Rattle.mv_core.specs.declared.entry.Reply.TheVariants as reply
-use Rattle.ses_report.specs.Refusals.{no_form, not_attached, already_attached, too_large, newer}
+use Rattle.ses_report.specs.Refusals.{no_form, syntax, bad_line, not_attached, already_attached, too_large, newer}
 use Rattle.ses_step.specs.declared.answer.Answer.{Answer}
 use Rattle.ses_step.specs.declared.answer.Answer.TheVariants.{Done, Shown, Refused}
-use Rattle.ses_step.specs.declared.definition.NamedKind.{NamedKind}
-use Rattle.ses_step.specs.declared.definition.NamedKind.TheVariants as named
-use Rattle.ses_step.specs.declared.line.Command.{Command}
-use Rattle.ses_step.specs.declared.line.Command.TheVariants.{Attach, Acquire, Assign, Update, Commit, Show}
-use Rattle.ses_step.specs.declared.line.Line.TheVariants as line
+use Rattle.ses_step.specs.declared.command.Command.{Command}
+use Rattle.ses_step.specs.declared.command.Command.TheVariants.{Attach, Acquire, Assign, Update, Commit, Show}
+use Rattle.ses_step.specs.declared.line.LineForm.TheVariants as line
 use Rattle.ses_step.specs.declared.session.Begun.{Begun}
 use Rattle.ses_step.specs.declared.session.Begun.TheVariants.{Said, Ask}
 use Rattle.ses_step.specs.declared.session.Known.{Known}
-use Rattle.ses_step.specs.Lines.{line_form}
+use Rattle.ses_step.specs.Lines.{line_form, opens_block, is_end}
 use Rattle.ses_step.specs.Sessions.{new_session, begun, finished_by}
 
 -- ---- lines
 
-an_acquire : line_form (codes "  Ann: acquire Sales \" mine") ≡ line.Session (codes "Ann") (Some (Acquire (codes "Sales")))
-an_acquire = refl
-
-an_assignment : line_form (codes "b2: v = 0012") ≡ line.Session (codes "b2") (Some (Assign (codes "v") (pos 12)))
-an_assignment = refl
-
--- past the greatest INTEGER
-too_great : line_form (codes "b: v = 2147483648") ≡ line.Session (codes "b") None
-too_great = refl
-
--- without the colon
-no_session : line_form (codes "b SHOW v") ≡ line.Malformed
-no_session = refl
-
--- ---- definitions
-
--- v is to be this
-defines : List ℕ → NamedKind → Type 0
-defines text kind = line_form text ≡ line.Definition (Some (record { name = codes "v"; kind = kind }))
-
-d : List ℕ
-d = codes "d"
-
-e : List ℕ
-e = codes "e"
-
-a_dimension : defines (codes "define v dimension text") named.Dimension
-unfolding defines
-a_dimension = refl
-
-a_relation : defines (codes "DEFINE v RELATION T<e> \" both") (named.Relation (codes "T") e)
-unfolding defines e
-a_relation = refl
-
-a_valueset : defines (codes "DEFINE v VALUESET e\"") (named.Valueset e)
-unfolding defines e
-a_valueset = refl
-
-a_single_variable : defines (codes "DEFINE v VARIABLE BOOLEAN") (named.Variable Truth [])
-unfolding defines
-a_single_variable = refl
-
--- names of dimensions with and without commas and blanks
-with_commas : defines (codes "DEFINE v VARIABLE NUMBER<d,e>") (named.Variable Number (d ∷ e ∷ []))
-unfolding defines d e
-with_commas = refl
-
-with_blanks : defines (codes "DEFINE v VARIABLE NUMBER < d e >") (named.Variable Number (d ∷ e ∷ []))
-unfolding defines d e
-with_blanks = refl
-
--- that 7 dimensions are too many is no matter of form
-seven_dimensions : defines (codes "DEFINE v VARIABLE TEXT <d e d e d e d>") (named.Variable Words (d ∷ e ∷ d ∷ e ∷ d ∷ e ∷ d ∷ []))
-unfolding defines d e
-seven_dimensions = refl
-
-no_dimension : line_form (codes "DEFINE v VARIABLE NUMBER <>") ≡ line.Definition None
-no_dimension = refl
-
-never_closed : line_form (codes "DEFINE v VARIABLE NUMBER <d") ≡ line.Definition None
-never_closed = refl
-
-comma_at_the_end : line_form (codes "DEFINE v VARIABLE NUMBER <d,>") ≡ line.Definition None
-comma_at_the_end = refl
-
--- the colon of a session stands directly behind its name
-of_a_session : line_form (codes "DEFINE: UPDATE") ≡ line.Session (codes "DEFINE") (Some Update)
+of_a_session : line_form (codes "  Ann: acquire Sales") ≡ line.Session (codes "Ann") 6
 of_a_session = refl
 
-colon_apart : line_form (codes "DEFINE : UPDATE") ≡ line.Definition None
+-- without the colon it is refused at its first byte that is no blank
+no_session : line_form (codes " b SHOW v") ≡ line.Bad (syntax 2)
+no_session = refl
+
+passed_over : line_form (codes " \"a: SHOW v") ≡ line.Blank
+passed_over = refl
+
+-- a byte that no line has
+other_byte : line_form (codes "a: SHOW v" ++ 13 ∷ []) ≡ line.Bad bad_line
+other_byte = refl
+
+-- the colon of a session stands directly behind its name
+named_define : line_form (codes "DEFINE: UPDATE") ≡ line.Session (codes "DEFINE") 7
+named_define = refl
+
+colon_apart : line_form (codes "DEFINE : UPDATE") ≡ line.Definition
 colon_apart = refl
 
 -- the first word ends where no letter, digit, `_` or `.` stands
-word_at_a_mark : line_form (codes "DEFINE=v") ≡ line.Definition None
+word_at_a_mark : line_form (codes "DEFINE=v") ≡ line.Definition
 word_at_a_mark = refl
 
-longer_word : line_form (codes "DEFINE.v VARIABLE NUMBER") ≡ line.Malformed
+longer_word : line_form (codes "DEFINE.v VARIABLE NUMBER") ≡ line.Bad (syntax 1)
 longer_word = refl
+
+-- ---- blocks
+
+opens : opens_block (codes "DEFINE 9p\tPROGRAM \"c") ≡ true
+opens = refl
+
+opens_nothing : opens_block (codes "DEFINE \"p PROGRAM") ≡ false
+opens_nothing = refl
+
+ends : is_end (codes " end ") ≡ true
+ends = refl
+
+ends_nothing : is_end (codes "END \"p") ≡ false
+ends_nothing = refl
 
 -- ---- an INTEGER variable v, a valueset chosen and a formula f
 

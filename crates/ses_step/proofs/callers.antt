@@ -1,2 +1,3 @@
 -- Lemmas that are offered to the crates above.
+pub mod SessionPlaces
 pub mod ViewsOfDefinitions

@@ -1,7 +1,10 @@
 pub mod Words
 pub mod NameIndex
-pub mod DefinitionLines
 pub mod Lines
 pub mod Answers
+pub mod Commands
 pub mod Sessions
+pub mod Refusing
+pub mod SessionLines
+pub mod Kept
 pub mod inside

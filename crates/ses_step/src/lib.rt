@@ -3,17 +3,21 @@
 #![tactic(auto)]
 
 mod answer;
+mod command;
 mod definition;
 mod line;
 mod names;
 mod objects;
+mod refusing;
 mod session;
 mod word;
 
 pub use answer::{Answer, append_line};
-pub use definition::{Definition, NamedKind};
-pub use line::{Command, Line, read_line};
+pub use command::{Asked, Command};
+pub use definition::{Definition, NamedKind, kept_kind};
+pub use line::{LineForm, is_end, keeps_form, opens_block, sort_line};
 pub use names::Names;
 pub use objects::name_at;
-pub use session::{Begun, Known, Session};
+pub use refusing::types_refusal;
+pub use session::{Begun, Known, Session, parse_refusal};
 pub use std::alloc::AllocError as NoMemory;

@@ -1,4 +1,4 @@
-ghost use Rattle.std.specs.Prelude.{◌≡◌, [], ◌∷◌, map, IfOk, IsErr, IsSome, OnErr, OnOk};
+ghost use Rattle.std.specs.Prelude.{◌≡◌, ◌≤◌, [], ◌∷◌, length, map, IfOk, IsErr, IsSome, Ok, OnErr, OnOk};
 ghost use Rattle.std.specs.Option.{IsSomeAnd};
 ghost use Rattle.aw_cell.specs.declared.cell.Cell.TheVariants.{Int};
 ghost use Rattle.aw_schema.specs.declared.definition.DefKind.TheVariants.{Variable};
@@ -7,17 +7,20 @@ ghost use Rattle.mv_core.specs.declared.entry.Reply.TheVariants.{Acquired, Attac
 ghost use Rattle.mv_view.specs.ViewState.{object_of as seen_of, owned_objects};
 ghost use Rattle.mv_view.specs.Rules as rule;
 ghost use Rattle.ses_step.specs.declared.answer.Answer.TheVariants.{Refused};
-ghost use Rattle.ses_step.specs.declared.line.Command.TheVariants.{Attach, Acquire, Assign, Update, Commit, Show};
+ghost use Rattle.ses_step.specs.declared.command.Command.TheVariants.{Attach, Acquire, Assign, Update, Commit, Show};
 ghost use Rattle.ses_step.specs.declared.session.Begun.TheVariants.{Said};
+ghost use Rattle.ses_step.specs.SessionLines as line_spec;
 ghost use Rattle.ses_step.specs.Sessions as spec;
 ghost use Rattle.ses_step.specs.inside.AskedEntries.{AsksToOwn};
 
 use crate::answer::Answer;
-use crate::line::Command;
+use crate::command::{Asked, Command, command_of, runs};
 use crate::objects::{is_seen, is_single_at, name_at, name_of, no_slots};
 use aw_cell::{Cell, Text};
 use aw_lists::List;
 use aw_schema::Catalogue;
+use dml_lines::{ParseFault, statement_in};
+use dml_tree::Statement;
 use mv_core::{Entry, Fresh, Reply, Seen};
 use mv_view::{View, ViewFault};
 use ses_report::Refusal;
@@ -55,6 +58,28 @@ fn refused(refusal: Refusal) -> Begun
     ensures { result ≡ Said (Refused refusal) }
 {
     Begun::Said(Answer::Refused(refusal))
+}
+
+/// A fault of the tokens or the grammar of lines, as a refusal. A line of a block is told by its number.
+pub fn parse_refusal(fault: ParseFault) -> Refusal
+    ensures { result ≡ line_spec.parse_refusal fault }
+{
+    match fault {
+        ParseFault::Syntax { line, column } => Refusal::syntax(column).in_line(line),
+        ParseFault::NotHere { line } => Refusal::not_in_a_program().in_line(line),
+        ParseFault::NoMemory => Refusal::no_form(),
+    }
+}
+
+/// What a line asks for that has such a fault. The only error is want of memory.
+fn refused_by(fault: ParseFault) -> Result<Asked, AllocError>
+    ensures value { IfOk result (λ asked. asked ≡ Asked.Refused (line_spec.parse_refusal fault)) }
+    ensures memory { fault ≡ ParseFault.NoMemory → IsErr result }
+{
+    match fault {
+        ParseFault::NoMemory => Err(AllocError),
+        fault => Ok(Asked::Refused(parse_refusal(fault))),
+    }
 }
 
 fn objects(alloc: Global, seen: &[Seen]) -> Result<Vec<u16>, AllocError>
@@ -301,6 +326,61 @@ impl Known {
         }
     }
 
+    /// The command that a statement is, or why it is refused.
+    fn asked_by(
+        &self,
+        alloc: Global,
+        catalogue: &Catalogue,
+        statement: &Statement,
+    ) -> Result<Asked, AllocError>
+        requires { spec.Sees catalogue.now self.now }
+        ensures { IfOk result (λ asked. asked ≡ line_spec.asked_by catalogue.now self.now (Ok statement.now)) }
+    {
+        match self.refusal(alloc, catalogue, statement)? {
+            Some(refusal) => Ok(Asked::Refused(refusal)),
+            None => Ok(runs(command_of(statement))),
+        }
+    }
+
+    /// The command that a line asks for, or why it is refused.
+    fn asked(
+        &self,
+        alloc: Global,
+        catalogue: &Catalogue,
+        line: &[u8],
+        from: u32,
+    ) -> Result<Asked, AllocError>
+        requires sees { spec.Sees catalogue.now self.now }
+        requires short { length line.now ≤ 4096 }
+        requires within { from ≤ length line.now }
+        ensures { IfOk result (λ asked. asked ≡ line_spec.asked catalogue.now self.now line.now from) }
+    {
+        match statement_in(alloc, line, from) {
+            Ok(statement) => self.asked_by(alloc, catalogue, &statement),
+            Err(fault) => refused_by(fault),
+        }
+    }
+
+    fn begin_line(
+        &mut self,
+        alloc: Global,
+        catalogue: &Catalogue,
+        line: &[u8],
+        from: u32,
+    ) -> Result<Begun, AllocError>
+        requires sees { spec.Sees catalogue.now self.old }
+        requires short { length line.now ≤ 4096 }
+        requires within { from ≤ length line.now }
+        ensures begun { IfOk result (λ begun.
+            (begun, self.new) ≡ line_spec.line_begun catalogue.now self.old line.now from) }
+        ensures err { OnErr result (self.new ≡ self.old) }
+    {
+        match self.asked(alloc, catalogue, line, from)? {
+            Asked::Refused(refusal) => Ok(refused(refusal)),
+            Asked::Runs(command) => self.begin(alloc, catalogue, &command),
+        }
+    }
+
     fn attached(
         &mut self,
         alloc: Global,
@@ -398,28 +478,33 @@ impl Session {
         }
     }
 
-    /// Begins a command: the session answers it, or asks the shared state for an entry, whose reply
-    /// goes to `finish` (docs/LANGUAGE.md, "Statements"). The view of an attached session is of the
-    /// objects of this catalogue.
+    /// Begins a line, whose statement stands from this place on: the session answers it, or asks the
+    /// shared state for an entry, whose reply goes to `finish` (docs/LANGUAGE.md, "Statements"). The
+    /// line is as long as a line may be at most. The view of an attached session is of the objects of
+    /// this catalogue.
     ///
-    /// Refused are a name that isn't defined (1), then a session that isn't attached (15), or for
-    /// `AW ATTACH` one that is (16), then an object that isn't kept (1), and where its cell is asked
-    /// for or assigned one that is no INTEGER variable without dimensions (1). The only error is want
-    /// of memory, which leaves the session as it was; `AW ATTACH` and `SHOW` take none.
+    /// It is refused with 1 at the column of the first token with which its tokens begin no statement.
+    /// Then a session that isn't attached is refused (15), or for AW ATTACH one that is (16); an
+    /// unknown name (2), an object of a wrong kind (3), a name that comes twice (7); an object that the
+    /// session doesn't own (19) or owns (20); types (4) and dimensions (5) that don't fit, and too much
+    /// weight (14); a fixed value that its dimension lacks (6); and then what doesn't run yet, with 1
+    /// and column 1. The only error is want of memory, which leaves the session as it was.
     pub fn begin(
         &mut self,
         alloc: Global,
         catalogue: &Catalogue,
-        command: &Command,
+        line: &[u8],
+        from: u32,
     ) -> Result<Begun, AllocError>
         requires sees { spec.Sees catalogue.now self.old.known }
+        requires short { length line.now ≤ 4096 }
+        requires within { from ≤ length line.now }
         ensures begun { IfOk result (λ begun.
-            (begun, self.new.known) ≡ spec.begun catalogue.now self.old.known command.now) }
+            (begun, self.new.known) ≡ line_spec.line_begun catalogue.now self.old.known line.now from) }
         ensures keeps { IfOk result (λ begun. self.new.asked ≡ spec.asked_by begun) }
         ensures err { OnErr result (self.new ≡ self.old) }
-        ensures memory { OnErr result (spec.TakesMemory command.now) }
     {
-        let begun = self.known.begin(alloc, catalogue, command)?;
+        let begun = self.known.begin_line(alloc, catalogue, line, from)?;
         self.asked = begun.asked(alloc)?;
         Ok(begun)
     }

@@ -1,5 +1,5 @@
 use ses_report::{Detail, Refusal};
-use ses_step::{Answer, Begun, Command, Definition, Line, NamedKind, Names, Session};
+use ses_step::{Answer, Asked, Begun, Command, Definition, LineForm, NamedKind, Names, Session};
 
 fn is_shared<T: Send + Sync>() {}
 
@@ -11,8 +11,9 @@ fn sessions_cross_threads() {
     is_shared::<Names>();
     is_shared::<Begun>();
     is_shared::<Answer>();
+    is_shared::<Asked>();
     is_shared::<Command>();
-    is_shared::<Line>();
+    is_shared::<LineForm>();
     is_shared::<Definition>();
     is_shared::<NamedKind>();
 }

@@ -1,8 +1,8 @@
 -- The definitions that a script has made can be written and replayed, and stay so when one joins them.
-use Rattle.std.specs.Prelude.{◌≡◌, ◌≤◌, ◌<◌, ◌*◌, ◌&&◌, ◌++◌, ℕ, Bool, true, false, not, List, [], ◌∷◌, All, cond, length, map, nat_le, nat_lt, Option, None, Some, if◌then◌else◌, position, refl, unwrap_or}
+use Rattle.std.specs.Prelude.{◌≡◌, ◌≤◌, ◌<◌, ◌*◌, ◌&&◌, ◌++◌, ℕ, Bool, true, false, not, List, [], ◌∷◌, All, cond, length, map, nat_le, nat_lt, Option, None, Some, Ok, Err, if◌then◌else◌, position, refl, unwrap_or}
 use Rattle.std.specs.List.{list_all, list_any, position_or_len, sum_by}
 use Rattle.std.specs.Option.{is_none, option_map, option_or}
-use Rattle.std.proofs.Common.{◌∙◌, ap, sym, arith, length-append, append_assoc, append-nil}
+use Rattle.std.proofs.Common.{◌∙◌, ap, sym, subst, arith, length-append, append_assoc, append-nil}
 use Rattle.std.proofs.lemmas.Bool.{and_parts, and_from, leb-true, leb-false, ltb-true, ltb-false, true≢false}
 use Rattle.std.proofs.lemmas.Option.{cond_some, none-some}
 use Rattle.std.proofs.lemmas.List.{length-map}
@@ -22,14 +22,18 @@ use Rattle.aw_codec.specs.declared.record.Decoded.TheVariants.{Definitions}
 use Rattle.aw_codec.specs.Records.{IsDefinition, AreInRange}
 use Rattle.aw_codec.proofs.callers.Lengths.{record_length}
 use Rattle.aw_store.specs.StoredRecords.{IsStored, is_replayed, are_replayed, are_accepted_after}
+use Rattle.dml_tree.specs.declared.definition.Definition.{Definition as Tree}
+use Rattle.dml_lines.specs.Lines.{DefinitionRead, definition_in}
 use Rattle.ses_report.specs.declared.refusal.Refusal.{Refusal}
 use Rattle.ses_report.specs.Refusals as report
 use Rattle.ses_step.specs.declared.definition.Definition.{Definition}
 use Rattle.ses_step.specs.declared.definition.NamedKind.{NamedKind}
 use Rattle.ses_step.specs.declared.definition.NamedKind.TheVariants.{Dimension, Relation, Valueset, Variable}
-use Rattle.script_meaning.specs.Defining.{IsFormed, number_of, kind_of, def_of, names_in, told, define_refusal}
+use Rattle.ses_step.specs.Kept.{kept_kind}
+use Rattle.script_meaning.specs.Defining.{IsFormed, number_of, kind_of, def_of, names_in, told, define_refusal, accepted_by}
+use Rattle.script_meaning.specs.DefinitionLines.{is_block, form_refusal, define_kind, define_read, define_unless, define}
 use Rattle.script_meaning.specs.Fit.{AreDefinable}
-use Rattle.script_meaning.proofs.callers.LineDefinitions.{spellable-formed}
+use Rattle.script_meaning.proofs.callers.LineDefinitions.{spellable-formed, read-formed}
 use Rattle.script_meaning.proofs.Recording.{definitions-few}
 
 -- ---- how long their record is
@@ -170,3 +174,25 @@ definable-push definitions d it formed none =
       replayed = replayed;
       accepted = accepted-push [] definitions def it.accepted (ap is_none so.accepted);
     }
+
+-- what lines leave of definitions that can be written can be written
+pub defined-definable : (d : List Def) (lines : List (List ℕ)) (after : List Def) → define d lines ≡ Ok after → AreDefinable d → AreDefinable after
+defined-definable d lines after is it = by_form (form_refusal lines) is
+  where
+    by_refusal : (definition : Definition) → IsFormed definition → (found : Option Refusal) → define_refusal d definition ≡ found → accepted_by d definition found ≡ Ok after → AreDefinable after
+    by_refusal definition formed None none same = let those : d ++ def_of d definition ∷ [] ≡ after = cc in subst AreDefinable those (definable-push d definition it formed none)
+    by_refusal definition formed (Some refusal) some same = cc
+
+    by_kind : (tree : Tree) → definition_in lines ≡ Ok tree → (kind : Option NamedKind) → kept_kind tree.what ≡ kind → define_kind d tree kind ≡ Ok after → AreDefinable after
+    by_kind tree read None other same = cc
+    by_kind tree read (Some kind) kept same =
+        let definition : Definition = record { name = tree.name; kind = kind } in
+        by_refusal definition (read-formed lines tree read kind kept) (define_refusal d definition) refl same
+
+    by_read : (read : DefinitionRead) → definition_in lines ≡ read → define_read d (is_block lines) read ≡ Ok after → AreDefinable after
+    by_read (Err fault) read same = cc
+    by_read (Ok tree) read same = by_kind tree read (kept_kind tree.what) refl same
+
+    by_form : (found : Option Refusal) → define_unless found d lines ≡ Ok after → AreDefinable after
+    by_form (Some refusal) same = cc
+    by_form None same = by_read (definition_in lines) refl same

@@ -1,5 +1,5 @@
 -- What the parts of the answer to a line do to a store and to a run, whatever the run did before.
-use Rattle.std.specs.Prelude.{◌≡◌, ◌≢◌, ◌≤◌, ◌<◌, ◌+◌, ◌++◌, ◌⊎◌, ◌↔◌, ℕ, List, [], ◌∷◌, length, Option, None, Some, Result, Ok, Err, slice_set}
+use Rattle.std.specs.Prelude.{◌≡◌, ◌≢◌, ◌≤◌, ◌<◌, ◌++◌, ◌⊎◌, ◌↔◌, ℕ, List, [], ◌∷◌, length, Option, None, Some, Result, Ok, Err, slice_set}
 use Rattle.aw_lists.specs.Faults.{Rose}
 use Rattle.aw_schema.specs.declared.definition.Def.{Def}
 use Rattle.aw_body.specs.KeptBodies.{bodies_of}
@@ -10,22 +10,21 @@ use Rattle.mv_core.specs.Workspace.{table_of, opened as just_opened}
 use Rattle.aw_store.specs.StoredRecords.{definitions_of}
 use Rattle.aw_store.specs.Stores.{StoreState}
 use Rattle.ses_step.specs.declared.answer.Answer.{Answer}
-use Rattle.ses_step.specs.declared.line.Command.{Command}
-use Rattle.ses_step.specs.declared.line.Line.{Line}
-use Rattle.ses_step.specs.declared.line.Line.TheVariants as line
+use Rattle.ses_step.specs.declared.line.LineForm.TheVariants as line
 use Rattle.ses_step.specs.declared.session.Known.{Known}
 use Rattle.ses_step.specs.declared.session.Session.{Session}
 use Rattle.ses_step.specs.Lines.{line_form}
 use Rattle.ses_step.specs.Sessions.{Sees, finished}
 use Rattle.script_world.specs.Outcomes.{Outcome, done, faulted, Attempt, on_disk, all_attempts, attempts_of}
 use Rattle.script_world.specs.LearntOutcomes.{Tells}
+use Rattle.script_world.specs.Meaning.{Form}
 use Rattle.script_world.specs.Worlds as script
 use Rattle.script_world.specs.Worlds.{Machine, Event, Answered, session_place, with_session, commanded, shared_of, closed, session_planned, form_planned, settled, answered}
 use Rattle.script_meaning.specs.StoreAttempts.{StoreHasAttempted}
-use Rattle.script_meaning.specs.Language.{language, store_writing, objects_machine, form_of, ObjectsDisk, ObjectsWorld}
+use Rattle.script_meaning.specs.Language.{language, Written, store_writing, objects_machine, ObjectsDisk, ObjectsWorld}
 use Rattle.script_meaning.specs.Transcript.{SameRecords}
 use Rattle.script_meaning.specs.StoreRuns.{store_disk}
-use Rattle.script_meaning.specs.Turns.{turn}
+use Rattle.script_meaning.specs.Turns.{line_turn}
 use Rattle.script_play.specs.declared.world.StoreWorld.{StoreWorld}
 use Rattle.script_play.specs.declared.stop.Stop.{Stop}
 use Rattle.script_play.specs.declared.stop.Stop.TheVariants.{SinkFault, DiskFault, NoMemory}
@@ -40,8 +39,8 @@ IsOpen store = (definitions : List Def) × (definitions_of store.records ≡ Som
 -- a line under a session's name
 pub record IsOfSession (text : List ℕ) : Type 0 where
   pub name : List ℕ
-  pub command : Option Command
-  pub is : line_form text ≡ line.Session name command
+  pub from : ℕ
+  pub is : line_form text ≡ line.Session name from
 
 -- ---- what a line means on the machine, by the outcomes of its commits
 
@@ -51,20 +50,27 @@ machine next = on_disk store_writing next objects_machine
 abbrev pub Means : Type 0
 Means = (ℕ → Outcome) → ObjectsWorld → Answered language ObjectsDisk
 
-abbrev pub command_means : ℕ → Option Command → Means
-command_means who command next w = settled (machine next) (commanded w (shared_of (machine next).opens w) who command)
+abbrev pub turn_means : ℕ → Written → Means
+turn_means who written next w = settled (machine next) (commanded w (shared_of (machine next).opens w) who written)
 
 -- under a session's name, once the definitions are closed
-abbrev pub session_means : List ℕ → Option Command → Means
-session_means name command next w =
-    settled (machine next) (session_planned (machine next).opens (with_session w name) (session_place w name) command)
+abbrev pub session_means : List ℕ → Written → Means
+session_means name written next w =
+    settled (machine next) (session_planned (machine next).opens (with_session w name) (session_place w name) written)
 
 -- the same, where they may still have to be closed
-abbrev pub named_means : List ℕ → Option Command → Means
-named_means name command next w = session_means name command next (closed (machine next).opens w)
+abbrev pub named_means : List ℕ → Written → Means
+named_means name written next w = session_means name written next (closed (machine next).opens w)
 
-abbrev pub form_means : List ℕ → Line → Means
-form_means text form next w = settled (machine next) (form_planned (machine next).opens w text (form_of form))
+abbrev pub form_means : List ℕ → Form Written → Means
+form_means text form next w = settled (machine next) (form_planned (machine next).opens w text form)
+
+-- the open lines are a definition, by themselves or with one line more
+abbrev pub definition_means : Means
+definition_means next w = script.defined w w.open_lines
+
+abbrev pub ended_means : List ℕ → Means
+ended_means text next w = script.defined w (w.open_lines ++ text ∷ [])
 
 abbrev pub event_means : Event → Means
 event_means event next w = answered (machine next) w event
@@ -92,7 +98,7 @@ module _ {D : Type 0} (faults clock : D → ℕ) (crash : D → ℕ → List ℕ
     pub later : Later old.disk new.disk
     pub keeps_open : (definitions : List Def) → definitions_of old.records ≡ Some definitions → definitions_of new.records ≡ Some definitions
 
-  -- ---- a command of a session
+  -- ---- a line of a session
 
   -- an entry, answered by a step of the machine
   pub record Asked (asked : Entry) (reply : Reply) (old new : StoreState D) : Type 0 where
@@ -113,30 +119,30 @@ module _ {D : Type 0} (faults clock : D → ℕ) (crash : D → ℕ → List ℕ
   abbrev pub ReplyWants : Entry → StoreState D → StoreState D → Type 0
   ReplyWants asked old new = (new ≡ old) ⊎ ((reply : Reply) × Asked asked reply old new)
 
-  -- a command, answered by a turn of the machine
-  pub record Turned (definitions : List Def) (names : List (List ℕ)) (command : Command) (answer : Answer) (before after : Known) (old new : StoreState D) : Type 0 where
+  -- a session's line, answered by a turn of the machine
+  pub record Turned (definitions : List Def) (names : List (List ℕ)) (its : Written) (answer : Answer) (before after : Known) (old new : StoreState D) : Type 0 where
     pub told : List Outcome
     pub more : List (Attempt Decoded)
     pub as_many : length more ≡ length told
     pub moves : Moves told more old new
-    pub turns : (next : ℕ → Outcome) (opened : Option Decoded) (tried : List (Attempt Decoded)) → Tells next (length tried) told → turn (machine next) definitions names (store_disk opened tried old) before command ≡ record { answer = answer; session = after; shared = store_disk opened (tried ++ more) new }
+    pub turns : (next : ℕ → Outcome) (opened : Option Decoded) (tried : List (Attempt Decoded)) → Tells next (length tried) told → line_turn (machine next) definitions names (store_disk opened tried old) before its ≡ record { answer = answer; session = after; shared = store_disk opened (tried ++ more) new }
     pub keeps_seen : Sees definitions before → Sees definitions after
 
-  -- a command that was taken up, and made its attempts
-  pub record TurnTakes (definitions : List Def) (names : List (List ℕ)) (command : Command) (before : Known) (old new : StoreState D) : Type 0 where
+  -- a line that was taken up by its session, and made its attempts
+  pub record TurnTakes (definitions : List Def) (names : List (List ℕ)) (its : Written) (before : Known) (old new : StoreState D) : Type 0 where
     pub told : List Outcome
     pub more : List (Attempt Decoded)
     pub as_many : length more ≡ length told
     pub moves : Moves told more old new
-    pub made_so : (next : ℕ → Outcome) (opened : Option Decoded) (tried : List (Attempt Decoded)) → Tells next (length tried) told → attempts_of (Some (turn (machine next) definitions names (store_disk opened tried old) before command).shared) ≡ all_attempts opened tried ++ more
+    pub made_so : (next : ℕ → Outcome) (opened : Option Decoded) (tried : List (Attempt Decoded)) → Tells next (length tried) told → attempts_of (Some (line_turn (machine next) definitions names (store_disk opened tried old) before its).shared) ≡ all_attempts opened tried ++ more
 
-  abbrev pub TurnWants : List Def → List (List ℕ) → Command → Known → StoreState D → StoreState D → Type 0
-  TurnWants definitions names command before old new = (new ≡ old) ⊎ TurnTakes definitions names command before old new
+  abbrev pub TurnWants : List Def → List (List ℕ) → Written → Known → StoreState D → StoreState D → Type 0
+  TurnWants definitions names its before old new = (new ≡ old) ⊎ TurnTakes definitions names its before old new
 
-  -- a command of the session at a place
-  pub record TurnsAt (command : Command) (answer : Answer) (who : ℕ) (old new : StoreWorld (StoreState D)) : Type 0 where
+  -- a line of the session at a place
+  pub record TurnsAt (its : Written) (answer : Answer) (who : ℕ) (old new : StoreWorld (StoreState D)) : Type 0 where
     pub after : Session
-    pub turned : Turned (definitions_in old.store) old.names command answer (own_known old who) after.known old.store new.store
+    pub turned : Turned (definitions_in old.store) old.names its answer (own_known old who) after.known old.store new.store
     pub rest : new ≡ record old { store = new.store; sessions = slice_set old.sessions who after }
 
   -- ---- a line

@@ -3,7 +3,6 @@ use Rattle.std.specs.Prelude.{◌≡◌, ◌++◌, ◌⊎◌, ℕ, Bool, true, f
 use Rattle.aw_lists.specs.Faults.{Rose}
 use Rattle.aw_io.specs.Known.{Grows, GrowsByFront}
 use Rattle.aw_codec.specs.declared.record.Decoded.{Decoded}
-use Rattle.aw_schema.specs.declared.definition.Def.{Def}
 use Rattle.aw_store.specs.StoredRecords.{definitions_of}
 use Rattle.aw_store.specs.Stores.{StoreState}
 use Rattle.ses_step.specs.Answers.{answer_line, is_refusal}
@@ -21,7 +20,7 @@ use Rattle.script_play.specs.declared.stop.Stop.TheVariants.{SinkFault, DiskFaul
 use Rattle.script_play.specs.declared.response.Response.{Response}
 use Rattle.script_play.specs.Runs.{with_last, last_text, GrowsBehind, FewFaults, defining}
 use Rattle.script_play.specs.inside.StoreWorlds.{world_of, IsMade}
-use Rattle.script_play.specs.inside.LineSteps.{Later, line_means, IsOfSession, Responds, Wants, FailsToOpen}
+use Rattle.script_play.specs.inside.LineSteps.{Later, event_means, IsOfSession, Responds, Wants, FailsToOpen}
 use Rattle.script_play.specs.declared.player.Player.{Player}
 
 -- what is written of a response, and whether it is a refusal
@@ -40,11 +39,18 @@ WritesSo response (Err SinkFault) before now = GrowsByFront before now (answer_l
 WritesSo response (Err NoMemory) before now = GrowsByFront before now (answer_line response.prefix response.answer)
 WritesSo response (Err DiskFault) before now = ⊥
 
+-- the same of an event, which may have no answer
+abbrev pub WritesResponse : Option Response → Result Bool Stop → Option (List ℕ) → Option (List ℕ) → Type 0
+WritesResponse response (Ok refused) before now = (refused ≡ refuses_of response) × Grows before now (said_of response)
+WritesResponse response (Err SinkFault) before now = GrowsByFront before now (said_of response)
+WritesResponse response (Err NoMemory) before now = GrowsByFront before now (said_of response)
+WritesResponse response (Err DiskFault) before now = ⊥
+
 -- a session's line closes the definitions, and so does the end of a script with any
-abbrev pub ClosesWith : List Def → Event → Type 0
-ClosesWith definitions (line text) = IsOfSession text
-ClosesWith definitions block_ends = ⊥
-ClosesWith definitions script_ends = is_any definitions ≡ true
+abbrev pub ClosesWith : {D : Type 0} → StoreWorld (StoreState D) → Event → Type 0
+ClosesWith w (line text) = IsOfSession text × (w.open_lines ≡ [])
+ClosesWith w block_ends = ⊥
+ClosesWith w script_ends = is_any w.drafted ≡ true
 
 -- the world, the bytes of the line that hasn't ended, and whether a line was refused
 pub record Play (D : Type 0) : Type 0 where
@@ -53,26 +59,26 @@ pub record Play (D : Type 0) : Type 0 where
   pub refused : Bool
 
 module _ {D : Type 0} (faults clock : D → ℕ) (crash : D → ℕ → List ℕ → Type 0) where
-  -- ---- one line
+  -- ---- one line, or the end of a block
 
   -- a line was answered, and the answer was written
-  pub record Responded (text : List ℕ) (refused : Bool) (old new : StoreWorld (StoreState D)) (before now : Option (List ℕ)) : Type 0 where
+  pub record Responded (event : Event) (refused : Bool) (old new : StoreWorld (StoreState D)) (before now : Option (List ℕ)) : Type 0 where
     pub response : Option Response
-    pub answers : Responds faults clock crash (line_means text) response old new
+    pub answers : Responds faults clock crash (event_means event) response old new
     pub refuses : refused ≡ refuses_of response
     pub written : Grows before now (said_of response)
 
   -- a line was answered, and a front of the answer was written
-  pub record CutIn (text : List ℕ) (old new : StoreWorld (StoreState D)) (before now : Option (List ℕ)) : Type 0 where
+  pub record CutIn (event : Event) (old new : StoreWorld (StoreState D)) (before now : Option (List ℕ)) : Type 0 where
     pub response : Option Response
-    pub answers : Responds faults clock crash (line_means text) response old new
+    pub answers : Responds faults clock crash (event_means event) response old new
     pub written : GrowsByFront before now (said_of response)
 
-  abbrev pub RespondedSo : List ℕ → Result Bool Stop → StoreWorld (StoreState D) → StoreWorld (StoreState D) → Option (List ℕ) → Option (List ℕ) → Type 0
-  RespondedSo text (Ok refused) old new before now = Responded text refused old new before now
-  RespondedSo text (Err SinkFault) old new before now = CutIn text old new before now
-  RespondedSo text (Err NoMemory) old new before now = CutIn text old new before now ⊎ (Wants faults clock crash (line_means text) old new × (now ≡ before))
-  RespondedSo text (Err DiskFault) old new before now = FailsToOpen faults clock crash old new × (now ≡ before) × IsOfSession text
+  abbrev pub RespondedSo : Event → Result Bool Stop → StoreWorld (StoreState D) → StoreWorld (StoreState D) → Option (List ℕ) → Option (List ℕ) → Type 0
+  RespondedSo event (Ok refused) old new before now = Responded event refused old new before now
+  RespondedSo event (Err SinkFault) old new before now = CutIn event old new before now
+  RespondedSo event (Err NoMemory) old new before now = CutIn event old new before now ⊎ (Wants faults clock crash (event_means event) old new × (now ≡ before))
+  RespondedSo event (Err DiskFault) old new before now = FailsToOpen faults clock crash old new × (now ≡ before) × ClosesWith old event
 
   module _ (records : List Decoded) (at : D) where
     -- ---- lines
@@ -118,7 +124,7 @@ module _ {D : Type 0} (faults clock : D → ℕ) (crash : D → ℕ → List ℕ
       pub text : List ℕ
       pub refused : Bool
       pub w : StoreWorld (StoreState D)
-      pub closes : ClosesWith w.drafted next
+      pub closes : ClosesWith w next
       pub unopened : definitions_of w.store.records ≡ None
       pub run : StoreRun [] records events [] None [] text refused (world_of w)
       pub stands : Stands [] (defining w.drafted faulted ∷ []) store
@@ -166,6 +172,11 @@ module _ {D : Type 0} (faults clock : D → ℕ) (crash : D → ℕ → List ℕ
     pub ends : (records : List Decoded) (at : D) (taken : List ℕ) (before : Option (List ℕ)) → HasPlayed records at taken old before old_written →
         (text : List ℕ) × HasDone records at (map line (script_lines taken)) text refused new × Grows before new_written text
 
+  -- and a definition that was still open
+  pub record EndsBlock (refused : Bool) (old : Play D) (old_written : Option (List ℕ)) (new : StoreWorld (StoreState D)) (new_written : Option (List ℕ)) : Type 0 where
+    pub ends : (records : List Decoded) (at : D) (taken : List ℕ) (before : Option (List ℕ)) → HasPlayed records at taken old before old_written →
+        (text : List ℕ) × HasDone records at (map line (script_lines taken) ++ block_ends ∷ []) text refused new × Grows before new_written text
+
   pub record Finishes (refused : Bool) (old : Play D) (old_written : Option (List ℕ)) (store : StoreState D) (new_written : Option (List ℕ)) : Type 0 where
     pub finishes : (records : List Decoded) (at : D) (taken : List ℕ) (before : Option (List ℕ)) → HasPlayed records at taken old before old_written → HasFinished records at (script_events taken) refused store before new_written
 
@@ -175,6 +186,10 @@ module _ {D : Type 0} (faults clock : D → ℕ) (crash : D → ℕ → List ℕ
   abbrev pub EndsLinesSo : Result Bool Stop → Play D → Option (List ℕ) → StoreWorld (StoreState D) → Option (List ℕ) → Type 0
   EndsLinesSo (Ok refused) old old_written new new_written = EndsLines refused old old_written new new_written
   EndsLinesSo (Err stop) old old_written new new_written = StopsAtEnd stop old old_written new.store new_written
+
+  abbrev pub EndsBlockSo : Result Bool Stop → Play D → Option (List ℕ) → StoreWorld (StoreState D) → Option (List ℕ) → Type 0
+  EndsBlockSo (Ok refused) old old_written new new_written = EndsBlock refused old old_written new new_written
+  EndsBlockSo (Err stop) old old_written new new_written = StopsAtEnd stop old old_written new.store new_written
 
   abbrev pub FinishesSo : Result Bool Stop → Play D → Option (List ℕ) → StoreState D → Option (List ℕ) → Type 0
   FinishesSo (Ok refused) old old_written store new_written = Finishes refused old old_written store new_written
@@ -189,7 +204,7 @@ play_of player = record { world = player.world; line = player.line.items; refuse
 
 -- nothing is drafted
 abbrev pub opened_world : {D : Type 0} → StoreState D → StoreWorld (StoreState D)
-opened_world store = record { drafted = []; store = store; names = []; sessions = [] }
+opened_world store = record { drafted = []; open_lines = []; store = store; names = []; sessions = [] }
 
 abbrev pub opened_play : {D : Type 0} → StoreState D → Play D
 opened_play store = record { world = opened_world store; line = []; refused = false }

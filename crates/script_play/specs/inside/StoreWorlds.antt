@@ -6,9 +6,7 @@ use Rattle.aw_codec.specs.declared.record.Decoded.{Decoded}
 use Rattle.aw_store.specs.StoredRecords.{definitions_of}
 use Rattle.aw_store.specs.Stores.{StoreState}
 use Rattle.ses_report.specs.declared.refusal.Refusal.{Refusal}
-use Rattle.ses_report.specs.Refusals.{no_form, definitions_closed}
 use Rattle.ses_step.specs.declared.answer.Answer.TheVariants.{Refused}
-use Rattle.ses_step.specs.declared.definition.Definition.{Definition}
 use Rattle.ses_step.specs.Answers.{answer_of}
 use Rattle.ses_step.specs.Words.{place_of}
 use Rattle.ses_step.specs.declared.session.Known.{Known}
@@ -16,12 +14,13 @@ use Rattle.ses_step.specs.declared.session.Session.{Session}
 use Rattle.ses_step.specs.Sessions.{new_session, resting, Sees}
 use Rattle.script_world.specs.Worlds.{World, with_shared, Answered, silent, answered_so}
 use Rattle.script_world.specs.Outcomes.{Attempt}
+use Rattle.script_meaning.specs.DefinitionLines.{define, late}
 use Rattle.script_meaning.specs.Fit.{AreDefinable}
 use Rattle.script_meaning.specs.Language.{language, ObjectsWorld}
 use Rattle.script_meaning.specs.StoreRuns.{store_disk}
 use Rattle.script_play.specs.declared.world.StoreWorld.{StoreWorld}
 use Rattle.script_play.specs.declared.response.Response.{Response}
-use Rattle.script_play.specs.inside.Drafts.{drafting_refusal, drafted_after}
+use Rattle.script_play.specs.inside.Drafts.{Drafted, drafted_by}
 
 -- the store, once it has definitions
 abbrev pub open_store : {D : Type 0} → StoreState D → Option (StoreState D)
@@ -39,12 +38,11 @@ known_by sessions = map (λ (session : Session). session.known) sessions
 abbrev pub own_known : {D : Type 0} → StoreWorld (StoreState D) → ℕ → Known
 own_known w who = (slice_index_or w.sessions who (resting (new_session who))).known
 
--- the definitions are those that the script drafted, until the store has definitions; no one of them is open behind a line,
--- since each is one line
+-- the definitions are those that the script drafted, until the store has definitions
 abbrev pub world_of : {D : Type 0} → StoreWorld (StoreState D) → World language (StoreState D)
 world_of w = record {
   definitions = unwrap_or (definitions_of w.store.records) w.drafted;
-  open_lines = [];
+  open_lines = w.open_lines;
   shared = open_store w.store;
   names = w.names;
   sessions = known_by w.sessions;
@@ -81,17 +79,15 @@ answered_by (Some response) w = answered_so response.prefix (answer_of response.
 abbrev pub refusing_response : List ℕ → Refusal → Response
 refusing_response prefix refusal = record { prefix = prefix; answer = Refused refusal }
 
-abbrev pub refused_response : List ℕ → Response
-refused_response prefix = refusing_response prefix no_form
-
 -- ---- a definition
 
--- why a definition line is refused: whatever it defines, after the definitions are closed
-abbrev pub joining_refusal : {D : Type 0} → StoreWorld (StoreState D) → Option Definition → Option Refusal
-joining_refusal w found = if is_none (definitions_of w.store.records) then drafting_refusal w.drafted found else Some definitions_closed
+-- what its lines do: whatever they are, nothing after the definitions are closed
+abbrev pub joined_by : {D : Type 0} → StoreWorld (StoreState D) → List (List ℕ) → Drafted
+joined_by w lines =
+    if is_none (definitions_of w.store.records) then drafted_by w.drafted (define w.drafted lines) else record { refusal = Some (late lines); drafted = w.drafted }
 
-abbrev pub JoinsSo : {D : Type 0} → Option Definition → Option Refusal → StoreWorld (StoreState D) → StoreWorld (StoreState D) → Type 0
-JoinsSo found refusal old new = (refusal ≡ joining_refusal old found) × (new ≡ record old { drafted = drafted_after refusal old.drafted found })
+abbrev pub JoinsSo : {D : Type 0} → List (List ℕ) → Option Refusal → StoreWorld (StoreState D) → StoreWorld (StoreState D) → Type 0
+JoinsSo lines refusal old new = (refusal ≡ (joined_by old lines).refusal) × (new ≡ record old { drafted = (joined_by old lines).drafted })
 
 -- ---- a session's first line
 

@@ -1,5 +1,5 @@
 -- What a session does keeps that its view is of the definitions.
-use Rattle.std.specs.Prelude.{ℕ, ◌≡◌, ◌==◌, cond, List, [], ◌∷◌, Option, Some, None, IfSome, is_some}
+use Rattle.std.specs.Prelude.{ℕ, ◌≡◌, ◌==◌, List, [], ◌∷◌, Option, Some, None, IfSome, is_some}
 use Rattle.std.specs.Option.{option_map}
 use Rattle.std.proofs.Common.{◌∙◌, ap, refl, subst, arith}
 use Rattle.aw_cell.specs.declared.cell.Cell.TheVariants.{Int}
@@ -13,8 +13,11 @@ use Rattle.mv_view.specs.ViewState.{ObjectView, ViewState, kinds_of, kept_kinds,
 use Rattle.mv_view.specs.Rules as rule
 use Rattle.mv_view.proofs.callers.Fitting.{kinds-each, kind-cond}
 use Rattle.mv_view.proofs.callers.Committing.{handed-over, kinds-seen}
-use Rattle.ses_step.specs.declared.line.Command.{Command}
+use Rattle.ses_step.specs.declared.command.Asked.{Asked}
+use Rattle.ses_step.specs.declared.command.Asked.TheVariants.{Runs, Refused}
+use Rattle.ses_step.specs.declared.command.Command.{Command}
 use Rattle.ses_step.specs.declared.session.Known.{Known}
+use Rattle.ses_step.specs.SessionLines.{asked, begun_as, line_begun}
 use Rattle.ses_step.specs.Sessions.{begun, finished_by, Sees, Allows}
 use Rattle.ses_step.proofs.Begins.{begun-cases}
 
@@ -86,6 +89,14 @@ sees-begun definitions s line sees =
     (λ view is. sees-updated definitions (owned_objects view) view (subst (λ (v : Option ViewState). IfSome v (λ one. kinds_of one ≡ kept_kinds definitions)) is sees))
     (λ change changes. sees)
     line
+
+-- a line
+pub sees-line_begun : (definitions : List Def) (s : Known) (line : List ℕ) (from : ℕ) → Sees definitions s → Sees definitions (line_begun definitions s line from).1
+sees-line_begun definitions s line from sees = by (asked definitions s line from)
+  where
+    by : (it : Asked) → Sees definitions (begun_as definitions s it).1
+    by (Refused refusal) = sees
+    by (Runs command) = sees-begun definitions s command sees
 
 -- a reply keeps it
 pub sees-finished : (definitions : List Def) (given : List (List ℕ)) (s : Known) (asked : List ℕ) (reply : Reply) → Sees definitions s → Allows definitions s reply → Sees definitions (finished_by definitions given s asked reply).1

@@ -1,5 +1,5 @@
 use Rattle.script_world.proofs.callers.NoSession.{sessions_are_answered}
-use Rattle.script_meaning.specs.CommandAnswers.{IsOneLine}
+use Rattle.script_meaning.specs.LineAnswers.{IsOneLine}
 use Rattle.script_meaning.specs.Language.{by_history}
 use Rattle.script_meaning.proofs.OneLineAnswers.{speaks}
 use Rattle.script_meaning.proofs.laws.session_lines_are_answered_once.Goals as goal

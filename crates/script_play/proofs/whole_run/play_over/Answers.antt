@@ -7,9 +7,9 @@ returns-in-Err-clause-ends g c = ends_unbegun g.D.Disk.faults g.D.Disk.clock g.D
 
 pub play_with-ending-requires-clause-sound : goal.play_with-ending-requires-clause-sound
 play_with-ending-requires-clause-sound g c =
-    sound_as g.D.Disk.faults g.D.Disk.clock g.D.Disk.crash _ c.args.store (opened_as g.D.Disk.faults g.D.Disk.clock g.D.Disk.crash _ c.args.store _ _ _ c.new-player.ensures.fresh c.new.ensures c.new-2.ensures c.new-3.ensures)
+    sound_as g.D.Disk.faults g.D.Disk.clock g.D.Disk.crash _ c.args.store (opened_as g.D.Disk.faults g.D.Disk.clock g.D.Disk.crash _ c.args.store _ _ _ _ c.new-player.ensures.fresh c.new.ensures c.new-2.ensures c.new-3.ensures c.new-4.ensures)
 
 pub returns-clause-ends : goal.returns-clause-ends
 returns-clause-ends g c =
     ends_as_opened g.D.Disk.faults g.D.Disk.clock g.D.Disk.crash _ c.args.store _ _ c.play_with-ending.result _
-    (opened_as g.D.Disk.faults g.D.Disk.clock g.D.Disk.crash _ c.args.store _ _ _ c.new-player.ensures.fresh c.new.ensures c.new-2.ensures c.new-3.ensures) c.into_store.ensures c.play_with-ending.ensures.ends
+    (opened_as g.D.Disk.faults g.D.Disk.clock g.D.Disk.crash _ c.args.store _ _ _ _ c.new-player.ensures.fresh c.new.ensures c.new-2.ensures c.new-3.ensures c.new-4.ensures) c.into_store.ensures c.play_with-ending.ensures.ends

@@ -1,0 +1,14 @@
+use Rattle.script_meaning.proofs.LineAnswers.{lines_answered, others_refused, assignments_done, updates_done}
+use Rattle.script_meaning.proofs.laws.lines_are_answered_in_order.Goals as goal
+
+pub returns-clause-in_order : goal.returns-clause-in_order
+returns-clause-in_order c = lines_answered
+
+pub returns-clause-others : goal.returns-clause-others
+returns-clause-others c = others_refused
+
+pub returns-clause-assigned : goal.returns-clause-assigned
+returns-clause-assigned c = assignments_done
+
+pub returns-clause-updated : goal.returns-clause-updated
+returns-clause-updated c = updates_done

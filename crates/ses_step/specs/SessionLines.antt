@@ -1,0 +1,50 @@
+-- What a session's line asks for, and how it begins.
+use Rattle.std.specs.Prelude.{ℕ, List, Option, Some, None, Result, Ok, Err}
+use Rattle.aw_schema.specs.declared.definition.Def.{Def}
+use Rattle.dml_tree.specs.declared.statement.Statement.{Statement}
+use Rattle.dml_grammar.specs.declared.fault.ParseFault.{ParseFault}
+use Rattle.dml_grammar.specs.declared.fault.ParseFault.TheVariants.{Syntax, NotHere, NoMemory}
+use Rattle.dml_lines.specs.Lines.{statement_in}
+use Rattle.ses_report.specs.declared.refusal.Refusal.{Refusal}
+use Rattle.ses_report.specs.Refusals.{no_form, syntax, not_in_a_program, in_line}
+use Rattle.ses_step.specs.declared.answer.Answer.TheVariants as answer
+use Rattle.ses_step.specs.declared.command.Asked.{Asked}
+use Rattle.ses_step.specs.declared.command.Asked.TheVariants.{Runs, Refused}
+use Rattle.ses_step.specs.declared.command.Command.{Command}
+use Rattle.ses_step.specs.declared.session.Begun.{Begun}
+use Rattle.ses_step.specs.declared.session.Begun.TheVariants.{Said}
+use Rattle.ses_step.specs.declared.session.Known.{Known}
+use Rattle.ses_step.specs.Commands.{command_of}
+use Rattle.ses_step.specs.Refusing.{statement_refusal}
+use Rattle.ses_step.specs.Sessions.{begun}
+
+-- a fault of the tokens or the grammar; want of memory is none
+abbrev pub parse_refusal : ParseFault → Refusal
+parse_refusal (Syntax line column) = in_line line (syntax column)
+parse_refusal (NotHere line) = in_line line not_in_a_program
+parse_refusal NoMemory = no_form
+
+-- what passes all tests and doesn't run yet is refused with 1
+abbrev pub runs : Option Command → Asked
+runs (Some command) = Runs command
+runs None = Refused no_form
+
+abbrev pub asked_unless : Option Refusal → Statement → Asked
+asked_unless (Some refusal) statement = Refused refusal
+asked_unless None statement = runs (command_of statement)
+
+abbrev pub asked_by : List Def → Known → Result Statement ParseFault → Asked
+asked_by definitions s (Err fault) = Refused (parse_refusal fault)
+asked_by definitions s (Ok statement) = asked_unless (statement_refusal definitions s statement) statement
+
+-- the command that a line asks for, whose statement stands from this place on, or why it is refused
+abbrev pub asked : List Def → Known → List ℕ → ℕ → Asked
+asked definitions s line from = asked_by definitions s (statement_in line from)
+
+-- a refusal leaves the session as it was
+abbrev pub begun_as : List Def → Known → Asked → Begun × Known
+begun_as definitions s (Refused refusal) = (Said (answer.Refused refusal), s)
+begun_as definitions s (Runs command) = begun definitions s command
+
+abbrev pub line_begun : List Def → Known → List ℕ → ℕ → Begun × Known
+line_begun definitions s line from = begun_as definitions s (asked definitions s line from)
