@@ -1,0 +1,8 @@
+//! Tests of `dml_parse`, and lines worked out by hand as theorems (`proofs/Worked.antt`). They stand
+//! apart from that crate, which would be proved a second time for tests of its own.
+#![tactic(auto)]
+
+#[cfg(test)]
+mod definitions;
+#[cfg(test)]
+mod fronts;
