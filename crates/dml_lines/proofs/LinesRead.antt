@@ -1,9 +1,11 @@
 -- What is read of lines is what the lines say.
-use Rattle.std.specs.Prelude.{ℕ, suc, ◌≡◌, ◌≤◌, ◌<◌, ◌+◌, ◌⊎◌, List, [], ◌∷◌, ◌++◌, length, drop, get_or, Option, Some, Ok, Err}
-use Rattle.std.proofs.Common.{◌∙◌, ap, ap₂, sym, subst, inl, inr, arith, append_assoc, append-nil}
+use Rattle.std.specs.Prelude.{ℕ, suc, Bool, ◌==◌, ◌≡◌, ◌≤◌, ◌<◌, ◌+◌, ◌⊎◌, List, [], ◌∷◌, ◌++◌, length, drop, get_or, Option, Some, Ok, Err}
+use Rattle.std.proofs.Common.{◌∙◌, ap, ap₂, sym, inl, inr, arith, append_assoc, append-nil}
+use Rattle.std.proofs.lemmas.Grind.{common_steps}
 use Rattle.std.proofs.Math.Seq.{drop-cons}
 use Rattle.dml_tree.specs.LineTokens.{AreTokens, HasFault}
-use Rattle.dml_tree.specs.TokensIn.{TokensRead, tokens_in}
+use Rattle.dml_tree.specs.TokensIn.{TokensRead}
+use Rattle.dml_tree.specs.declared.token.TokenFault.TheVariants.{Lexical}
 use Rattle.dml_tree.specs.declared.token.Token.{Token}
 use Rattle.dml_tree.specs.declared.statement.Statement.{Statement}
 use Rattle.dml_tree.specs.declared.definition.Definition.{Definition}
@@ -14,7 +16,7 @@ use Rattle.dml_grammar.specs.Grammar as g
 use Rattle.dml_grammar.specs.PlacedTokens.{placed, block, within as line_within}
 use Rattle.dml_grammar.specs.Sentences.{Is, IsRefusedAt, statement_refusal, definition_refusal}
 use Rattle.dml_grammar.proofs.callers.Trees.{tree_is, refusal_is}
-use Rattle.dml_lines.specs.Lines.{statement_told, statement_by, statement_in, Front, with_line, front_of, DefinitionRead, definition_told, defined_by, before, decided, counted, definition_in}
+use Rattle.dml_lines.specs.Lines.{statement_told, statement_by, statement_in, Front, with_line, line_read, front_of, DefinitionRead, definition_told, defined_by, before, decided, counted, definition_in}
 use Rattle.dml_lines.specs.inside.Telling.{Tells, behind}
 
 module _ (line : List ℕ) (from : ℕ) (within : from ≤ length line) where
@@ -49,27 +51,33 @@ drop-here lines i line within here =
     let next : suc i ≡ i + 1 = omega arith in
     drop-cons lines i line within ∙ ap₂ (λ (l : List ℕ) (ls : List (List ℕ)). l ∷ ls) (sym here) (ap (λ k. drop k lines) next)
 
-module _ (lines : List (List ℕ)) (i : ℕ) (front : List (List Token)) (line : List ℕ) (within : i < length lines) (here : line ≡ get_or lines i line) (read : behind front (front_of (drop i lines)) ≡ front_of lines) where
+-- a line is the last one where no line stands behind it
+last-is : (lines : List (List ℕ)) (i size : ℕ) → i < length lines → size ≡ i → (size + 1 == length lines) ≡ (length (drop (i + 1) lines) == 0)
+last-is lines i size within same = grind (arith, common_steps)
+
+module _ (lines : List (List ℕ)) (i : ℕ) (front : List (List Token)) (line : List ℕ) (within : i < length lines) (here : line ≡ get_or lines i line) (read : behind front (front_of (drop i lines)) ≡ front_of lines) (last : Bool) (is_last : last ≡ (length front + 1 == length lines)) (size : length front ≡ i) (text : List ℕ) (same : text ≡ line) where
   abbrev rest : Front
   rest = front_of (drop (i + 1) lines)
 
-  from-here : behind front (with_line (tokens_in line 0) rest) ≡ front_of lines
-  from-here = ap (λ (those : List (List ℕ)). behind front (front_of those)) (sym (drop-here lines i line within here)) ∙ read
+  read-here : line_read last text ≡ line_read (length (drop (i + 1) lines) == 0) line
+  read-here = ap₂ line_read (is_last ∙ last-is lines i (length front) within size) same
+
+  from-here : behind front (with_line (line_read last text) rest) ≡ front_of lines
+  from-here =
+      ap (λ (r : TokensRead). behind front (with_line r rest)) read-here
+      ∙ ap (λ (those : List (List ℕ)). behind front (front_of those)) (sym (drop-here lines i line within here)) ∙ read
 
   -- the next line has tokens
-  pub front_next : (tokens : List Token) → AreTokens line 0 tokens → behind (front ++ tokens ∷ []) rest ≡ front_of lines
+  pub front_next : (tokens : List Token) → line_read last text ≡ Ok tokens → behind (front ++ tokens ∷ []) rest ≡ front_of lines
   front_next tokens are =
       ap (λ (those : List (List Token)). let it : Front = record { tokens = those; fault = rest.fault } in it) (append_assoc front (tokens ∷ []) rest.tokens)
-      ∙ ap (λ (r : TokensRead). behind front (with_line r rest)) (sym (tokens_are line 0 (omega arith) tokens are)) ∙ from-here
+      ∙ ap (λ (r : TokensRead). behind front (with_line r rest)) (sym are) ∙ from-here
 
-  -- the next line has a faulty token
-  front_ends : (column : ℕ) → HasFault line 0 column → (let it : Front = record { tokens = front; fault = Some column } in it ≡ front_of lines)
+  -- the next line has a fault
+  pub front_ends : (column : ℕ) → line_read last text ≡ Err (Lexical column) → (let it : Front = record { tokens = front; fault = Some column } in it ≡ front_of lines)
   front_ends column fault =
       ap (λ (those : List (List Token)). let it : Front = record { tokens = those; fault = Some column } in it) (sym (append-nil front))
-      ∙ ap (λ (r : TokensRead). behind front (with_line r rest)) (sym (fault_is line 0 (omega arith) column fault)) ∙ from-here
-
-  pub front_ends_as : (text : List ℕ) → text ≡ line → (column : ℕ) → HasFault text 0 column → (let it : Front = record { tokens = front; fault = Some column } in it ≡ front_of lines)
-  front_ends_as text same column fault = front_ends column (subst (λ (l : List ℕ). HasFault l 0 column) same fault)
+      ∙ ap (λ (r : TokensRead). behind front (with_line r rest)) (sym fault) ∙ from-here
 
 -- ---- a definition
 

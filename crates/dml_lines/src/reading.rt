@@ -1,5 +1,5 @@
-ghost use Rattle.std.specs.Prelude.{◌-◌, ◌≡◌, ◌⊎◌, ◌≤◌, ◌<◌, ◌^◌, IfOk, IsTrue, Ok, Err, length, nat_lt, suc};
-ghost use Rattle.std.specs.List.{list_all};
+ghost use Rattle.std.specs.Prelude.{ℕ, ◌==◌, ◌-◌, ◌≡◌, ◌⊎◌, ◌≤◌, ◌<◌, ◌^◌, IfOk, IsTrue, Ok, Err, length, nat_lt, suc};
+ghost use Rattle.std.specs.List.{list_all, list_any};
 ghost use Rattle.dml_grammar.specs.PlacedTokens.{within};
 ghost use Rattle.dml_lines.specs.Lines as spec;
 ghost use Rattle.dml_lines.specs.inside.Telling.{Tells};
@@ -7,7 +7,7 @@ ghost use Rattle.dml_lines.specs.inside.Telling.{Tells};
 use aw_lists::List;
 use dml_grammar::ParseFault;
 use dml_parse::{definition, statement};
-use dml_tree::{Definition, Statement, Token, TokenFault, tokens};
+use dml_tree::{Definition, Lexeme, Statement, Token, TokenFault, Word, tokens};
 use std::alloc::{AllocError, Global};
 
 fn read_statement(alloc: Global, line: &[u8], from: u32) -> Result<Statement, ParseFault>
@@ -39,7 +39,53 @@ pub fn statement_in(alloc: Global, line: &[u8], from: u32) -> Result<Statement, 
     read_statement(alloc, line, from)
 }
 
-/// The tokens of lines up to the first one with a faulty token, and the column of that.
+fn is_end_word(what: &Lexeme) -> bool
+    ensures { result ≡ spec.is_end_word what.now }
+{
+    matches!(what, Lexeme::Word(Word::End))
+}
+
+fn has_comment(line: &[u8]) -> bool
+    ensures { result ≡ list_any (λ byte. byte == 34) line.now }
+{
+    line.iter().any(|byte| *byte == b'"')
+}
+
+/// Whether a line that begins with END closes a block.
+fn closes(last: bool, line: &[u8], tokens: &[Token]) -> bool
+    ensures { result ≡ spec.closes last line.now tokens.now }
+{
+    last && tokens.len() == 2 && !has_comment(line)
+}
+
+/// The column of END in a line that begins with it and doesn't close a block.
+fn end_inside(last: bool, line: &[u8], tokens: &[Token]) -> Option<u32>
+    ensures { result ≡ spec.end_inside last line.now tokens.now }
+{
+    let first = tokens.first()?;
+    if is_end_word(&first.what) && !closes(last, line, tokens) {
+        Some(first.from.saturating_add(1))
+    } else {
+        None
+    }
+}
+
+/// The tokens of a line of a definition.
+fn read_line(alloc: Global, last: bool, line: &[u8]) -> Result<List<Token>, TokenFault>
+    requires { length line.now < 2 ^ 32 - 1 }
+    ensures tokens { IfOk result (λ tokens. spec.line_read last line.now ≡ Ok tokens) }
+    ensures fault { (column : ℕ) → result ≡ Err (TokenFault.Lexical column) → spec.line_read last line.now ≡ Err (TokenFault.Lexical column) }
+{
+    match tokens(alloc, line, 0) {
+        Ok(tokens) => match end_inside(last, line, tokens.as_slice()) {
+            Some(column) => Err(TokenFault::Lexical { column }),
+            None => Ok(tokens),
+        },
+        Err(fault) => Err(fault),
+    }
+}
+
+/// The tokens of lines up to the first one with a fault, and the column of that.
 #[derive(Drop)]
 struct Front {
     tokens: List<List<Token>>,
@@ -52,7 +98,8 @@ fn front_of(alloc: Global, lines: &[List<u8>]) -> Result<Front, AllocError>
 {
     let mut front = List::new(alloc);
     for line in lines {
-        match tokens(alloc, line.as_slice(), 0) {
+        let last = front.len() + 1 == lines.len();
+        match read_line(alloc, last, line.as_slice()) {
             Ok(tokens) => front.push(tokens)?,
             Err(TokenFault::Lexical { column }) => {
                 return Ok(Front {

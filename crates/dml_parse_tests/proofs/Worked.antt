@@ -1,5 +1,5 @@
 -- Worked cases, each worked out by hand: what lines say, and where they are refused.
-use Rattle.std.specs.Prelude.{pos, ◌≡◌, true, false, [], ◌∷◌, Ok, Err, codes}
+use Rattle.std.specs.Prelude.{◌++◌, pos, ◌≡◌, true, false, [], ◌∷◌, Ok, Err, codes}
 use Rattle.std.proofs.Common.{refl}
 use Rattle.aw_cell.specs.declared.comparison.Order.TheVariants as order
 use Rattle.dml_tree.specs.TokensIn.{tokens_in}
@@ -119,6 +119,14 @@ block_without_doend = refl
 pub without_end : definition_in (codes "DEFINE p PROGRAM" ∷ codes "SHOW v" ∷ []) ≡ Err (Syntax 3 1)
 unfolding definition_in tokens_in tree_of reading
 without_end = refl
+
+pub end_with_more : definition_in (codes "DEFINE m AGGMAP" ∷ codes "RELATION r OPERATOR SUM" ∷ codes " END x" ∷ codes "END" ∷ []) ≡ Err (Syntax 3 2)
+unfolding definition_in tokens_in tree_of reading
+end_with_more = refl
+
+pub end_with_a_comment : definition_in (codes "DEFINE m AGGMAP" ∷ codes "RELATION r OPERATOR SUM" ∷ (codes "END " ++ 34 ∷ []) ∷ []) ≡ Err (Syntax 3 1)
+unfolding definition_in tokens_in tree_of reading
+end_with_a_comment = refl
 
 pub map_without_lines : definition_in (codes "DEFINE m AGGMAP" ∷ codes "END" ∷ []) ≡ Err (Syntax 2 1)
 unfolding definition_in tokens_in tree_of reading
