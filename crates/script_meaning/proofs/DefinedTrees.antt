@@ -1,5 +1,5 @@
 -- What lines define has a name that is one, and a variable among it has a type: both are those of its tokens.
-use Rattle.std.specs.Prelude.{ℕ, zero, suc, ◌≡◌, ◌⊎◌, ◌||◌, Bool, true, false, cond, nat_eq, nat_le, List, [], ◌∷◌, ◌++◌, length, Option, Some, None, Result, Ok, Err, refl}
+use Rattle.std.specs.Prelude.{ℕ, zero, suc, ◌≡◌, ◌⊎◌, ◌||◌, ◌==◌, Bool, true, false, cond, nat_eq, nat_le, List, [], ◌∷◌, ◌++◌, length, Option, Some, None, Result, Ok, Err, refl}
 use Rattle.std.proofs.Common.{◌∙◌, ap, sym, subst, inl, inr, arith, ⊎_elim}
 use Rattle.std.proofs.lemmas.Bool.{true≢false}
 use Rattle.std.proofs.lemmas.Bool.Decides.{nat_tests}
@@ -36,7 +36,7 @@ use Rattle.dml_grammar.specs.PlacedTokens.{placed_from, placed, placed_lines, is
 use Rattle.dml_grammar.specs.Sentences.{Is}
 use Rattle.dml_grammar.specs.Trees.{IsTreeOf, tree_of}
 use Rattle.dml_grammar.proofs.callers.Trees.{tree_right}
-use Rattle.dml_lines.specs.Lines.{with_line, front_of, DefinitionRead, definition_told, defined_by, before, decided, counted, definition_in}
+use Rattle.dml_lines.specs.Lines.{with_line, end_inside, refused_at, unless_end, front_of, DefinitionRead, definition_told, defined_by, before, decided, counted, definition_in}
 
 -- ---- names among tokens
 
@@ -86,8 +86,15 @@ front-named : (lines : List (List ℕ)) → LinesNamed (front_of lines).tokens
 front-named [] = tt
 front-named (line ∷ lines) = by (tokens_in line 0) refl (front-named lines)
   where
-    by : (r : TokensRead) → tokens_in line 0 ≡ r → LinesNamed (front_of lines).tokens → LinesNamed (with_line r (front_of lines)).tokens
-    by (Ok tokens) is rest = (read-named line tokens is, rest)
+    last : Bool
+    last = length lines == 0
+
+    kept : (tokens : List Token) (found : Option ℕ) → AreNamed tokens → LinesNamed (front_of lines).tokens → LinesNamed (with_line (refused_at tokens found) (front_of lines)).tokens
+    kept tokens None named rest = (named, rest)
+    kept tokens (Some column) named rest = tt
+
+    by : (r : TokensRead) → tokens_in line 0 ≡ r → LinesNamed (front_of lines).tokens → LinesNamed (with_line (unless_end last line r) (front_of lines)).tokens
+    by (Ok tokens) is rest = kept tokens (end_inside last line tokens) (read-named line tokens is) rest
     by (Err (token.Lexical column)) is rest = tt
     by (Err token.NoMemory) is rest = tt
 
