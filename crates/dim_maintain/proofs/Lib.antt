@@ -1,0 +1,8 @@
+mod Adding
+mod Apart
+mod Behind
+mod ByName
+mod Checked
+mod Known
+mod Moving
+mod Turning
