@@ -55,7 +55,7 @@ module _ (name : List ℕ) where
   abbrev has : Entry → Bool
   has entry = bytes_eq entry.1 name
 
-  none_taken : (at : ℕ) (entries : List Entry) → find has entries ≡ None → (find has (take at entries) ≡ None) × (find has (drop at entries) ≡ None)
+  pub none_taken : (at : ℕ) (entries : List Entry) → find has entries ≡ None → (find has (take at entries) ≡ None) × (find has (drop at entries) ≡ None)
   none_taken zero entries h = (refl, h)
   none_taken (suc at) [] h = (refl, refl)
   none_taken (suc at) (entry ∷ entries) h = by (has entry) refl (none_taken at entries) h
@@ -72,7 +72,7 @@ module _ (name : List ℕ) where
       by true e more h = absurd cc
       by false e more h = ap (λ (b : Bool). cond b (Some (slot, first)) (find has (with_slots (slot + 1) names))) e ∙ more h
 
-  no_slot : (found : Option Entry) → option_map (λ (entry : Entry). entry.0) found ≡ None → found ≡ None
+  pub no_slot : (found : Option Entry) → option_map (λ (entry : Entry). entry.0) found ≡ None → found ≡ None
   no_slot None h = refl
   no_slot (Some entry) h = absurd cc
 

@@ -1,11 +1,10 @@
 -- Values moved behind all others one by one, and put at a place from there.
-use Rattle.std.proofs.Common.{ℕ, Bool, true, false, cond, not, ◌||◌, ◌&&◌, ◌≡◌, List, [], ◌∷◌, ◌++◌, slice_get, Some, filter, bytes_eq, refl, sym, ◌∙◌, ap, append-nil, append_assoc}
+use Rattle.std.proofs.Common.{ℕ, Bool, true, false, cond, not, ◌||◌, ◌&&◌, ◌≡◌, List, [], ◌∷◌, ◌++◌, filter, bytes_eq, refl, sym, ◌∙◌, ap, append-nil, append_assoc}
 use Rattle.std.proofs.lemmas.List.Elements.{filter-append}
 use Rattle.std.proofs.lemmas.List.Concat.{flat_map-append}
 use Rattle.std.proofs.lemmas.Slice.Eq.{bytes_eq-Decides}
 use Rattle.aw_dim.specs.DimensionState.{Entry, DimensionState}
 use Rattle.dim_maintain.specs.Maintained.{is_among, others, named, in_order, deleted}
-use Rattle.dim_maintain.proofs.Apart.{same_bool}
 use Rattle.dim_maintain.proofs.ByName.{among_one}
 
 -- ---- lists without some names
@@ -49,10 +48,6 @@ deleted_more values names name = (let same = others_more names name values.entri
 
 -- ---- one more behind the others
 
--- all have one of these names
-HaveNames : List (List ℕ) → List Entry → Type 0
-HaveNames names entries = (k : ℕ) (x : Entry) → slice_get entries k ≡ Some x → is_among names x.1 ≡ true
-
 module _ (values : DimensionState) where
   -- the values of some names, behind the others
   abbrev pub behind_all : List (List ℕ) → DimensionState
@@ -64,10 +59,6 @@ module _ (name : List ℕ) where
 
   abbrev has : Entry → Bool
   has x = bytes_eq x.1 name
-
-  differ : (names : List (List ℕ)) → is_among names name ≡ false → (x : Entry) → is_among names x.1 ≡ true → bytes_eq x.1 name ≡ false
-  differ names once x among =
-      same_bool (bytes_eq x.1 name) false (λ yes. (let e : true ≡ false = sym among ∙ ap (is_among names) ((bytes_eq-Decides x.1 name).0 yes) ∙ once in absurd cc)) (λ e. absurd cc)
 
   -- the value of another name isn't the one of this name
   other_named : (names : List (List ℕ)) (entries : List Entry) → is_among names name ≡ false → (others (name ∷ []) (in_order names entries) ≡ in_order names entries) × (named (in_order names entries) name ≡ [])

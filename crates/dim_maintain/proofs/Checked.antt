@@ -10,7 +10,7 @@ use Rattle.dml_tree.specs.declared.statement.Place.{Place}
 use Rattle.dim_maintain.specs.declared.fault.MaintainFault.{MaintainFault}
 use Rattle.dim_maintain.specs.declared.fault.MaintainFault.TheVariants.{NoValue, Repeated, Full}
 use Rattle.dim_maintain.specs.Maintained.{is_among}
-use Rattle.dim_maintain.specs.Causes.{first_cause, new_cause, old_cause, place_cause, own_place_cause, full_cause, added_cause, moved_cause, renamed_cause, is_value}
+use Rattle.dim_maintain.specs.Causes.{first_cause, new_cause, old_cause, place_cause, own_place_cause, full_cause, added_cause, moved_cause, is_value}
 
 pub neither : {X : Type 0} (a b : Option X) → option_or a b ≡ None → (a ≡ None) × (b ≡ None)
 neither None b h = (refl, h)
@@ -92,13 +92,3 @@ names_and_places values names place h =
     let all = neither (first_cause (old_cause values) [] names) (option_or (place_cause values place) (own_place_cause names place)) h in
     let both = neither (place_cause values place) (own_place_cause names place) all.1 in
     (all.0, both.0, both.1)
-
--- and a new name
-pub renames : (values : DimensionState) (old new : List ℕ) → renamed_cause values old new ≡ None → (new ≢ []) × (slot_of values new ≡ None)
-renames values old new h = by (is_value values old) (length new == 0) refl (slot_of values new) refl h
-  where
-    by : (known empty : Bool) → (length new == 0) ≡ empty → (slot : Option ℕ) → slot_of values new ≡ slot → cond (not known) (Some (NoValue old)) (cond empty (Some (NoValue new)) (cond (is_some slot) (Some (Repeated new)) None)) ≡ None → (new ≢ []) × (slot_of values new ≡ None)
-    by false empty d slot e h = absurd cc
-    by true true d slot e h = absurd cc
-    by true false d (Some slot) e h = absurd cc
-    by true false d None e h = (λ none. (let yes : (length new == 0) ≡ true = (Decides-eqb (length new) 0).1 (ap (λ (xs : List ℕ). length xs) none) in let both : true ≡ false = sym yes ∙ d in absurd cc), e)

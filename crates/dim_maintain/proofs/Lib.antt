@@ -4,5 +4,7 @@ mod Behind
 mod ByName
 mod Checked
 mod Known
+mod MaintainLaws
 mod Moving
 mod Turning
+mod Worked

@@ -46,10 +46,6 @@ taken [] rest at h = let e : at ≡ 0 = sym h in (ap (λ (n : ℕ). take n rest)
 taken (x ∷ front) rest zero h = absurd (omega (arith, h))
 taken (x ∷ front) rest (suc at) h = let more = taken front rest at (omega (arith, h)) in (ap (λ (ys : List Entry). x ∷ ys) more.0, more.1)
 
--- what a step makes of them: the last one is put at the place
-IsStep : ℕ → List Entry → List Entry → Type 0
-IsStep at entries next = (rest : List Entry) (last : Entry) → entries ≡ rest ++ last ∷ [] → next ≡ take at rest ++ last ∷ drop at rest
-
 pub turned_more : (before : List Entry) (at count : ℕ) (entries next : List Entry) → Turned before at count entries → at + count < length before → ((rest : List Entry) (last : Entry) → entries ≡ rest ++ last ∷ [] → next ≡ take at rest ++ last ∷ drop at rest) → Turned before at (count + 1) next
 turned_more before at count entries next so less step =
     let n : length before ≡ length so.front + (length so.middle + length so.turned) = ap (λ (xs : List Entry). length xs) so.was ∙ length-append so.front (so.middle ++ so.turned) ∙ ap (λ (k : ℕ). length so.front + k) (length-append so.middle so.turned) in

@@ -1,2 +1,3 @@
 pub mod Maintained
 pub mod Causes
+pub mod Laws
