@@ -1,0 +1,12 @@
+//! Aggregation maps: along which relations an aggregation or an allocation goes, and how.
+#![tactic(auto)]
+
+mod checking;
+mod fault;
+mod line;
+mod map;
+mod reading;
+
+pub use fault::MapFault;
+pub use line::MapLine;
+pub use map::AggMap;
