@@ -6,12 +6,12 @@ use Rattle.aw_schema.specs.declared.definition.Def.{Def}
 use Rattle.dml_tree.specs.declared.definition.Definition.{Definition}
 use Rattle.dml_grammar.specs.declared.fault.ParseFault.{ParseFault}
 use Rattle.dml_grammar.specs.declared.fault.ParseFault.TheVariants as parse
-use Rattle.dml_lines.specs.Lines.{DefinitionRead, definition_in}
+use Rattle.dml_lines.specs.Lines.{DefinitionRead}
 use Rattle.agg_map.specs.declared.fault.MapFault.{MapFault}
 use Rattle.agg_map.specs.declared.fault.MapFault.TheVariants.{NoMemory}
 use Rattle.agg_map.specs.Maps.{Map, MapRead}
-use Rattle.agg_map.specs.Texts.{end_line, text_lines, block_of, map_of, map_by, map_in, fault_of}
-use Rattle.agg_map.specs.inside.Telling.{Tells, Says}
+use Rattle.agg_map.specs.Texts.{end_line, text_lines, block_of, map_of, map_by, fault_of}
+use Rattle.agg_map.specs.inside.Telling.{Tells}
 
 -- ---- how long the lines are
 

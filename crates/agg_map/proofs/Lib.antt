@@ -1,3 +1,4 @@
 pub mod Blocks
 mod MapsRead
+mod TextsDefine
 mod Worked

@@ -1,5 +1,5 @@
 -- What is answered of lines, one by one.
-use Rattle.std.specs.Prelude.{ℕ, suc, ◌≡◌, ◌==◌, ◌&&◌, ◌||◌, ◌<◌, ◌+◌, ◌-◌, Bool, true, false, not, cond, is_some, List, [], ◌∷◌, ◌++◌, length, drop, get_or, fold, slice_get, Option, Some, None, Result, Ok, Err, IsTrue, All}
+use Rattle.std.specs.Prelude.{ℕ, suc, ◌≡◌, ◌==◌, ◌&&◌, ◌||◌, ◌<◌, ◌+◌, ◌-◌, Bool, true, false, not, cond, is_some, List, [], ◌∷◌, ◌++◌, length, drop, get_or, fold, slice_get, Option, Some, None, Ok, Err, IsTrue, All}
 use Rattle.std.specs.List.{list_any, IsDistinct}
 use Rattle.std.specs.Cmp.{nat_eq_equiv}
 use Rattle.std.proofs.Common.{◌∙◌, ap, ap₂, sym, subst, refl, arith}

@@ -1,7 +1,7 @@
 -- Worked cases, each worked out by hand: maps, and every refusal with its line.
-use Rattle.std.specs.Prelude.{ℕ, ◌≡◌, List, [], ◌∷◌, ◌++◌, Some, None, Ok, Err, codes}
+use Rattle.std.specs.Prelude.{◌≡◌, List, [], ◌∷◌, ◌++◌, Some, None, Ok, Err, codes}
 use Rattle.std.proofs.Common.{refl}
-use Rattle.aw_cell.specs.declared.operator.Operator.TheVariants.{Sum, Min, Max, Spread}
+use Rattle.aw_cell.specs.declared.operator.Operator.TheVariants.{Sum, Max, Spread}
 use Rattle.aw_cell.specs.declared.operator.Rest.TheVariants as rest_is
 use Rattle.aw_cell.specs.declared.operator.Spread.TheVariants.{Even, HEven, Copy}
 use Rattle.aw_schema.specs.declared.definition.Def.{Def}

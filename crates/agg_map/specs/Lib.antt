@@ -1,3 +1,4 @@
+pub mod Laws
 pub mod Maps
 pub mod Sound
 pub mod Texts

@@ -2,7 +2,6 @@
 use Rattle.std.specs.Prelude.{ℕ, ◌≡◌, Bool, nat_eq, is_some, List, length, IsTrue, All}
 use Rattle.std.specs.List.{IsDistinct}
 use Rattle.aw_cell.specs.declared.operator.Operator.{Operator}
-use Rattle.aw_cell.specs.declared.operator.Rest.TheVariants.{First}
 use Rattle.dml_tree.specs.declared.definition.Remainder.TheVariants.{Unwritten}
 use Rattle.agg_map.specs.declared.line.MapLine.{MapLine}
 use Rattle.agg_map.specs.Maps.{rest_of, one_allocates}

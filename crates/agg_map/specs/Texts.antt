@@ -1,6 +1,6 @@
 -- What a text means as an aggregation map. Its lines are read as those of a definition, between the line that begins one
 -- and END, so that the first line with a refusal of the language decides; then they are read over the definitions.
-use Rattle.std.specs.Prelude.{ℕ, ◌-◌, ◌==◌, List, [], ◌∷◌, ◌++◌, Result, Ok, Err, codes}
+use Rattle.std.specs.Prelude.{ℕ, ◌-◌, ◌==◌, List, [], ◌∷◌, ◌++◌, Ok, Err, codes}
 use Rattle.std.specs.List.{slice_split}
 use Rattle.aw_schema.specs.declared.definition.Def.{Def}
 use Rattle.dml_tree.specs.declared.definition.Defined.{Defined}

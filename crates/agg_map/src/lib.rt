@@ -3,10 +3,12 @@
 
 mod checking;
 mod fault;
+mod laws;
 mod line;
 mod map;
 mod reading;
 
 pub use fault::MapFault;
+pub use laws::texts_define_maps;
 pub use line::MapLine;
 pub use map::AggMap;

@@ -1,8 +1,8 @@
-use Rattle.std.proofs.Common.{◌≡◌, ◌∙◌, ap, ap₂, sym, subst, refl, inr, List, [], ◌∷◌, ◌++◌, ◌+◌, ℕ, drop, Ok, Err}
+use Rattle.std.proofs.Common.{◌≡◌, ◌∙◌, ap₂, sym, subst, refl, inr, List, [], ◌∷◌, ◌++◌, ◌+◌, ℕ, drop, Ok}
 use Rattle.agg_map.specs.Maps as spec
 use Rattle.agg_map.specs.Maps.{Map}
 use Rattle.agg_map.specs.Sound.{IsSound}
-use Rattle.agg_map.specs.inside.Telling.{Tells, lines_behind}
+use Rattle.agg_map.specs.inside.Telling.{lines_behind}
 use Rattle.agg_map.specs.declared.line.MapLine.{MapLine}
 use Rattle.agg_map.proofs.MapsRead.{one_more, stops, sound_more, sound_none}
 use Rattle.agg_map.proofs.reading.lines_in.Goals as goal
