@@ -1,4 +1,5 @@
 pub mod Blocks
+mod LinesOfMaps
 mod MapsRead
 mod TextsDefine
 mod Worked

@@ -24,7 +24,7 @@ use Rattle.agg_map.specs.Maps.{Map, LineRead, allocates, rest_of, own_dimension,
 use Rattle.agg_map.specs.Sound.{leaves_rest, IsSound}
 use Rattle.agg_map.specs.inside.Telling.{lines_behind}
 
-stays : (catalogue : List Def) (fault : MapFault) (lines : List Written) → fold (with_line catalogue) (Err fault) lines ≡ Err fault
+pub stays : (catalogue : List Def) (fault : MapFault) (lines : List Written) → fold (with_line catalogue) (Err fault) lines ≡ Err fault
 stays catalogue fault [] = refl
 stays catalogue fault (line ∷ lines) = stays catalogue fault lines
 

@@ -1,6 +1,7 @@
 -- The lines around a text define a map or nothing.
-use Rattle.std.specs.Prelude.{ℕ, zero, suc, ◌≡◌, Bool, true, false, cond, nat_le, List, [], ◌∷◌, ◌++◌, length, slice_get, Option, Some, None, Result, Ok, Err}
-use Rattle.std.proofs.Common.{◌∙◌, ap, sym, subst, refl, inl, inr}
+use Rattle.std.specs.Prelude.{ℕ, zero, suc, ◌≡◌, ◌<◌, Bool, true, false, cond, nat_le, List, [], ◌∷◌, ◌++◌, length, slice_get, Option, Some, None, Result, Ok, Err}
+use Rattle.std.proofs.Common.{◌∙◌, ap, sym, subst, refl, inl, inr, arith}
+use Rattle.std.proofs.lemmas.List.{length-append}
 use Rattle.std.proofs.lemmas.Bool.{true≢false}
 use Rattle.dml_tree.specs.declared.word.Word.{Word}
 use Rattle.dml_tree.specs.declared.word.Word.TheVariants as w
@@ -59,7 +60,7 @@ abbrev Derived : ℕ → (n : g.Part) → List Placed → g.Value n → Type 0
 Derived h n xs v = Derives sort rule h n xs v
 
 abbrev IsMap : Defined → Type 0
-IsMap what = (lines : List Written) × (what ≡ AggMap lines)
+IsMap what = (lines : List Written) × (what ≡ AggMap lines) × (0 < length lines)
 
 single : (h : ℕ) (word : Word) (ys : List Placed) (u : g.Value (g.keyword word)) → Derived h (g.keyword word) ys u → (x : Placed) × (ys ≡ x ∷ []) × (among (sort x) (number (sort_is.Word word) ∷ []) ≡ true)
 single zero word ys u d = absurd d
@@ -76,6 +77,17 @@ first-is x y xs ys zs one same = let e : x ∷ xs ≡ y ∷ zs = same ∙ ap (λ
 
 others-are : (x y : Placed) (xs ys zs : List Placed) → ys ≡ y ∷ [] → x ∷ xs ≡ ys ++ zs → zs ≡ xs
 others-are x y xs ys zs one same = let e : x ∷ xs ≡ y ∷ zs = same ∙ ap (λ (l : List Placed). l ++ zs) one in cc
+
+-- lines are added to those before them
+more-some : (h : ℕ) (front : List Written) (xs : List Placed) (lines : List Written) → 0 < length front → Derived h (g.more_map front) xs lines → 0 < length lines
+more-some zero front xs lines some d = absurd d
+more-some (suc h) front xs lines some (inl (_, zs, x, _, _, (those, derived, made))) =
+    subst (λ (l : List Written). 0 < length l) made (more-some h (front ++ x ∷ []) zs those (omega (arith, length-append front (x ∷ []))) derived)
+more-some (suc h) front xs lines some (inr (_, _, _, _, _, (_, _, made))) = subst (λ (l : List Written). 0 < length l) made some
+
+map-some : (h : ℕ) (xs : List Placed) (lines : List Written) → Derived h g.map xs lines → 0 < length lines
+map-some zero xs lines d = absurd d
+map-some (suc h) xs lines (_, zs, x, _, _, (those, derived, made)) = subst (λ (l : List Written). 0 < length l) made (more-some h (x ∷ []) zs those (omega arith) derived)
 
 module _ (line : ℕ) (xs : List Placed) where
   wrong : (word : Word) (h : ℕ) (ys zs : List Placed) (u : g.Value (g.keyword word)) → among (sort (aggmap line)) (number (sort_is.Word word) ∷ []) ≡ false → aggmap line ∷ xs ≡ ys ++ zs → Derived h (g.keyword word) ys u → ⊥
@@ -111,7 +123,7 @@ module _ (line : ℕ) (xs : List Placed) where
   defined-map (suc h) v (inr (inr (inr (inl (one, derived, made))))) = absurd (no-variable h one derived)
   defined-map (suc h) v (inr (inr (inr (inr (inl (one, derived, made)))))) = absurd (no-formula h one derived)
   defined-map (suc h) v (inr (inr (inr (inr (inr (inl (ys, zs, u, same, key, _))))))) = absurd (wrong w.Program h ys zs u refl same key)
-  defined-map (suc h) v (inr (inr (inr (inr (inr (inr (_, _, _, _, _, (_, _, _, _, _, (lines, _, made))))))))) = (lines, sym made)
+  defined-map (suc h) v (inr (inr (inr (inr (inr (inr (_, _, _, _, _, (_, vs, _, _, _, (lines, derived, made))))))))) = (lines, sym made, map-some h vs lines derived)
 
 definition-map : (line : ℕ) (xs : List Placed) (h : ℕ) (d : Definition) → Derived h g.definition (placed line head_tokens ++ xs) d → IsMap d.what
 definition-map line xs zero d derived = absurd derived

@@ -9,6 +9,6 @@ mod map;
 mod reading;
 
 pub use fault::MapFault;
-pub use laws::texts_define_maps;
+pub use laws::{maps_have_lines, texts_define_maps};
 pub use line::MapLine;
 pub use map::AggMap;
