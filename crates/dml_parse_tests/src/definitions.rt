@@ -2,7 +2,7 @@ use aw_lists::List;
 use dml_parse::{ParseFault, definition};
 use dml_tree::{Token, tokens};
 use std::alloc::Global;
-use std::fmt::Write;
+use std::fmt::{Debug, Write};
 use std::test::Fail;
 
 pub(crate) fn line_tokens(alloc: Global, line: &[u8]) -> Result<List<Token>, Fail> {
@@ -27,17 +27,25 @@ fn block(alloc: Global, text: &[u8]) -> Result<List<List<Token>>, Fail> {
     Ok(lines)
 }
 
-/// The tree of a definition as printed, or the line and column at which it is refused.
+/// What was read as printed, or the line and column at which it is refused. It is generic, so that the
+/// many forms of a statement aren't told apart where one is dropped.
+pub(crate) fn told<T: Debug + Drop>(
+    alloc: Global,
+    read: Result<T, ParseFault>,
+) -> Result<String, Fail> {
+    let mut told = String::new(alloc);
+    match read {
+        Ok(tree) => write!(told, "{tree:?}")?,
+        Err(ParseFault::Syntax { line, column }) => write!(told, "{line}:{column}")?,
+        Err(ParseFault::NotHere { line }) => write!(told, "not here {line}")?,
+        Err(ParseFault::NoMemory) => write!(told, "no answer")?,
+    }
+    Ok(told)
+}
+
 fn printed(alloc: Global, text: &[u8]) -> Result<String, Fail> {
     let lines = block(alloc, text)?;
-    let mut printed = String::new(alloc);
-    match definition(alloc, &lines) {
-        Ok(tree) => write!(printed, "{tree:?}")?,
-        Err(ParseFault::Syntax { line, column }) => write!(printed, "{line}:{column}")?,
-        Err(ParseFault::NotHere { line }) => write!(printed, "not here {line}")?,
-        Err(ParseFault::NoMemory) => write!(printed, "no answer")?,
-    }
-    Ok(printed)
+    told(alloc, definition(alloc, &lines))
 }
 
 fn reads(alloc: Global, text: &[u8], expected: &str) -> Result<bool, Fail> {
