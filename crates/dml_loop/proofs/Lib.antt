@@ -1,0 +1,6 @@
+mod AllOf
+mod WheelTurns
+mod Products
+mod EachPlace
+mod Worked
+mod AssignedPlaces
