@@ -8,7 +8,7 @@ use Rattle.dml_loop.specs.declared.fault.LoopFault.{LoopFault}
 use Rattle.dml_loop.specs.declared.fault.LoopFault.TheVariants.{Arith, NoValue, Empty, NoMemory}
 use Rattle.dml_loop.specs.Fixes.{Answers}
 use Rattle.dml_loop.specs.Loops.{all_of, on_ok, ok_map}
-use Rattle.dml_loop.specs.inside.Places.{behind}
+use Rattle.dml_loop.specs.inside.Progress.{behind}
 
 pub behind-none : {A E : Type 0} (answer : Result (List A) E) → behind [] answer ≡ answer
 behind-none (Ok xs) = refl
@@ -66,3 +66,17 @@ fill-more {A} {B} f before after all rest x y start first others is more so_far 
 pub each-left : {A : Type 0} (P : A → Type 0) (all rest : List A) (x : A) → all ≡ x ∷ drop 1 all → rest ≡ drop 1 all → All P all → All P rest
 each-left {A} P all rest x first others each =
     subst (λ (left : List A). All P left) (sym others) (All-tail P x (drop 1 all) (subst (λ (left : List A). All P left) first each))
+
+-- ---- which answer it is
+
+pub ok-same : {A : Type 0} (a b : A) → ◌≡◌ {A = Result A LoopFault} (Ok a) (Ok b) → a ≡ b
+ok-same a b e = cc
+
+pub err-same : {A : Type 0} (one other : LoopFault) → ◌≡◌ {A = Result A LoopFault} (Err one) (Err other) → one ≡ other
+err-same one other e = cc
+
+pub err-ok : {A : Type 0} (why : LoopFault) (a : A) → ◌≡◌ {A = Result A LoopFault} (Err why) (Ok a) → ⊥
+err-ok why a e = cc
+
+pub ok-err : {A : Type 0} (a : A) (why : LoopFault) → ◌≡◌ {A = Result A LoopFault} (Ok a) (Err why) → ⊥
+ok-err a why e = cc

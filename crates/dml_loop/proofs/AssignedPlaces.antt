@@ -8,22 +8,11 @@ use Rattle.dml_loop.specs.declared.fault.LoopFault.{LoopFault}
 use Rattle.dml_loop.specs.Evaluation.{slots_at, entry_of, assigned}
 use Rattle.dml_loop.specs.Laws.{AreApart, IsAssigned, IsFirstRefusal}
 use Rattle.dml_loop.specs.Loops.{Place, places, all_of, on_ok, ok_map}
+use Rattle.dml_loop.proofs.AllOf.{ok-same, err-same, err-ok, ok-err}
 use Rattle.dml_loop.proofs.Products.{places-product}
 
 abbrev Entry : Type 0
 Entry = List ℕ × Cell
-
-ok-same : {A : Type 0} (a b : A) → ◌≡◌ {A = Result A LoopFault} (Ok a) (Ok b) → a ≡ b
-ok-same a b e = cc
-
-err-same : {A : Type 0} (one other : LoopFault) → ◌≡◌ {A = Result A LoopFault} (Err one) (Err other) → one ≡ other
-err-same one other e = cc
-
-err-ok : {A : Type 0} (why : LoopFault) (a : A) → ◌≡◌ {A = Result A LoopFault} (Err why) (Ok a) → ⊥
-err-ok why a e = cc
-
-ok-err : {A : Type 0} (a : A) (why : LoopFault) → ◌≡◌ {A = Result A LoopFault} (Ok a) (Err why) → ⊥
-ok-err a why e = cc
 
 -- ---- the coordinates
 

@@ -6,8 +6,7 @@ use Rattle.dml_exec.specs.declared.code.Code.{Code}
 use Rattle.dml_exec.specs.Meaning.{CodeInputs}
 use Rattle.dml_exec.specs.CodeRuns.{CanRun, Fits}
 use Rattle.dml_loop.specs.Loops.{Place, places}
-use Rattle.dml_loop.specs.Evaluation.{CanLoop, first_place}
-use Rattle.dml_loop.specs.inside.Places.{first_places, places_of}
+use Rattle.dml_loop.specs.Evaluation.{CanLoop, first_place, places_of, first_places}
 
 pub each-later : (P Q : Place → Type 0) (dimension : ℕ) (rest : List Place) (slots : List ℕ) → ((slot : ℕ) (place : Place) → P place → Q ((dimension, slot) ∷ place)) → All P rest → All Q (flat_map (λ slot. map (λ (place : Place). (dimension, slot) ∷ place) rest) slots)
 each-later P Q dimension rest [] step all = All-nil Q

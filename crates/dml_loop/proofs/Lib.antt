@@ -4,3 +4,4 @@ mod Products
 mod EachPlace
 mod Worked
 mod AssignedPlaces
+pub mod CallerLemmas

@@ -56,6 +56,14 @@ first_of dimension (slot ∷ slots) = Ok (dimension, slot)
 abbrev pub first_place : List (ℕ × List ℕ) → Result Place LoopFault
 first_place lists = all_of (λ list. first_of list.0 list.1) lists
 
+-- the first place, where no list is empty
+abbrev pub places_of : Result Place LoopFault → List Place
+places_of (Ok place) = place ∷ []
+places_of (Err why) = []
+
+abbrev pub first_places : List (ℕ × List ℕ) → List Place
+first_places lists = places_of (first_place lists)
+
 -- the value at the first place
 abbrev pub shown : (Place → Result Cell LoopFault) → List (ℕ × List ℕ) → Result Cell LoopFault
 shown value lists = on_ok value (first_place lists)

@@ -1,5 +1,5 @@
 -- What private functions alone need.
 pub mod Counting
-pub mod Places
+pub mod Progress
 pub mod Turning
 pub mod Wheels

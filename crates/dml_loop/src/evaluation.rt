@@ -2,7 +2,7 @@ ghost use Rattle.std.specs.Prelude.{◌≡◌, ◌≤◌, length, All};
 ghost use Rattle.dml_exec.specs.CodeRuns.{CanRun};
 ghost use Rattle.dml_loop.specs.Loops.{places};
 ghost use Rattle.dml_loop.specs.Fixes.{Answers};
-ghost use Rattle.dml_loop.specs.inside.Places.{behind};
+ghost use Rattle.dml_loop.specs.inside.Progress.{behind};
 ghost use Rattle.dml_loop.specs.Evaluation.{cell_of, read_at, stored, slots_at, entry_of, assigned, CanLoop};
 
 use crate::conversion::{Target, stored};

@@ -1,7 +1,6 @@
 ghost use Rattle.std.specs.Prelude.{◌≡◌, ◌∷◌, [], IfOk};
 ghost use Rattle.dml_loop.specs.Fixes.{Answers};
-ghost use Rattle.dml_loop.specs.Evaluation.{cell_of, read_at, first_of, first_place, shown, CanLoop};
-ghost use Rattle.dml_loop.specs.inside.Places.{first_places};
+ghost use Rattle.dml_loop.specs.Evaluation.{cell_of, read_at, first_of, first_place, first_places, shown, CanLoop};
 
 use crate::fault::LoopFault;
 use crate::list::DimensionList;
@@ -23,7 +22,7 @@ fn first_of(list: &DimensionList) -> Result<(u16, u16), LoopFault>
 }
 
 /// Each dimension at the first slot of its list. The first dimension whose list is empty is refused
-/// (docs/LANGUAGE.md, "Statements").
+/// (docs/ARCHITECTURE.md, "Loops").
 pub fn first_place(alloc: Global, lists: &[DimensionList]) -> Result<Place, LoopFault>
     ensures { Answers (first_place lists.now) result }
 {
@@ -35,7 +34,7 @@ pub fn first_place(alloc: Global, lists: &[DimensionList]) -> Result<Place, Loop
     Ok(place)
 }
 
-/// The cell at the first slot of each list, as SHOW prints it (docs/LANGUAGE.md, "Statements").
+/// The cell at the first slot of each list, as SHOW prints it (docs/ARCHITECTURE.md, "Loops").
 pub fn shown<C: Cells>(
     alloc: Global,
     reading: &Reading<C>,

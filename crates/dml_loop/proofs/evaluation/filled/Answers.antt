@@ -4,7 +4,7 @@ use Rattle.dml_exec.specs.Meaning.{CodeInputs}
 use Rattle.dml_loop.specs.declared.fault.LoopFault.{LoopFault}
 use Rattle.dml_loop.specs.Evaluation.{read_at, cell_of, stored, entry_of}
 use Rattle.dml_loop.specs.Loops.{Place, all_of}
-use Rattle.dml_loop.specs.inside.Places.{behind}
+use Rattle.dml_loop.specs.inside.Progress.{behind}
 use Rattle.dml_loop.proofs.AllOf.{fill-more, each-left}
 use Rattle.dml_loop.proofs.EachPlace.{runs-at, loops-left}
 use Rattle.dml_loop.proofs.evaluation.filled.Goals as goal

@@ -5,7 +5,7 @@ use Rattle.dml_exec.specs.Meaning.{CodeInputs}
 use Rattle.dml_loop.specs.declared.fault.LoopFault.{LoopFault}
 use Rattle.dml_loop.specs.Loops.{Place}
 use Rattle.dml_loop.specs.Evaluation.{cell_of, read_at, stored, assigned, CanLoop}
-use Rattle.dml_loop.specs.inside.Places.{behind}
+use Rattle.dml_loop.specs.inside.Progress.{behind}
 use Rattle.dml_loop.proofs.evaluation.filled.Given as goal
 
 abbrev pub invariant-loop-place : goal.invariant-loop-place

@@ -1,6 +1,6 @@
 use Rattle.std.proofs.Common.{◌≡◌, drop}
 use Rattle.dml_loop.specs.Fixes.{slots_of_fixes}
-use Rattle.dml_loop.specs.inside.Places.{behind}
+use Rattle.dml_loop.specs.inside.Progress.{behind}
 use Rattle.dml_loop.proofs.fixes.fixed_slots.Given as goal
 
 abbrev pub invariant-loop-fix : goal.invariant-loop-fix
