@@ -55,11 +55,11 @@ answers-same {A} meant other answer is h = subst (λ (r : Result A LoopFault). A
 
 -- ---- over a list that gets shorter
 
-pub fill-more : {A B E : Type 0} (f : A → Result B E) (before after : List B) (all rest : List A) (x : A) (y : B) (start : Result (List B) E) → all ≡ x ∷ drop 1 all → rest ≡ drop 1 all → f x ≡ Ok y → after ≡ before ++ y ∷ [] → behind before (all_of f all) ≡ start → behind after (all_of f rest) ≡ start
+pub fill-more : {A B E : Type 0} (f : A → Result B E) (before after : List B) (all rest : List A) (x : A) (y : B) (start : Result (List B) E) → all ≡ x ∷ drop 1 all → rest ≡ drop 1 all → Ok y ≡ f x → after ≡ before ++ y ∷ [] → behind before (all_of f all) ≡ start → behind after (all_of f rest) ≡ start
 fill-more {A} {B} f before after all rest x y start first others is more so_far =
     ap (λ (done : List B). behind done (all_of f rest)) more
     ∙ ap (λ (left : List A). behind (before ++ y ∷ []) (all_of f left)) others
-    ∙ sym (behind-more f before x (drop 1 all) y is)
+    ∙ sym (behind-more f before x (drop 1 all) y (sym is))
     ∙ ap (λ (left : List A). behind before (all_of f left)) (sym first)
     ∙ so_far
 

@@ -1,4 +1,4 @@
-use Rattle.std.proofs.Common.{◌≡◌, length, map, take}
+use Rattle.std.proofs.Common.{◌≡◌, length, take}
 use Rattle.dml_loop.specs.Evaluation.{slots_at}
 use Rattle.dml_loop.proofs.evaluation.coordinate.Given as goal
 

@@ -1,4 +1,4 @@
-use Rattle.std.proofs.Common.{◌≡◌, ◌∙◌, ◌∷◌, ◌-◌, ◌<◌, suc, ℕ, List, length, map, get_or, sym, ap, arith}
+use Rattle.std.proofs.Common.{◌≡◌, ◌∙◌, ◌∷◌, ◌-◌, ◌<◌, suc, length, map, sym, ap, arith}
 use Rattle.std.specs.List.{slice_set}
 use Rattle.dml_loop.specs.inside.Wheels.{WheelView, to_come, standing}
 use Rattle.dml_loop.proofs.WheelTurns.{turn-goes_on, turns-further, turn-ends, turn-within, within-there, stands-there, turned-set}

@@ -1,4 +1,4 @@
-use Rattle.std.proofs.Common.{◌≡◌, ◌∙◌, ◌∷◌, List, map, sym, ap, subst}
+use Rattle.std.proofs.Common.{◌∙◌, List, map, sym, ap, subst}
 use Rattle.std.specs.Prelude.{All}
 use Rattle.dml_loop.specs.inside.Wheels.{WheelView, to_come, standing, IsWithin}
 use Rattle.dml_loop.proofs.WheelTurns.{none-with-empty, all-within, begins}
