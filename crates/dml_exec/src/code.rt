@@ -55,6 +55,13 @@ impl Code {
         }
     }
 
+    /// Its ops.
+    pub fn ops(&self) -> &List<Op>
+        ensures { result.now ≡ self.now.ops }
+    {
+        &self.ops
+    }
+
     /// The values that it fixes, in the order in which its axes count them.
     pub fn fixes(&self) -> &List<Fix>
         ensures { result.now ≡ self.now.fixes }
