@@ -20,7 +20,7 @@ use Rattle.dml_kinds.specs.declared.types.ValueType.TheVariants.{Na, Of}
 use Rattle.dml_kinds.specs.Meanings.{Names}
 use Rattle.dml_kinds.specs.Types.{type_of}
 use Rattle.dml_kinds.specs.FreeDimensions.{free_dimensions}
-use Rattle.dml_kinds.specs.Checking.{refusal, expression_answer, formula_refusal}
+use Rattle.dml_kinds.specs.Checking.{refusal, measure_answer, formula_refusal}
 
 abbrev known_as : List ℕ → Meaning → Option Known
 known_as name meaning = Some (record { name = name; meaning = meaning })
@@ -172,7 +172,7 @@ fixed_is_not_free = simp (fold-roll-Expr) refl
 -- ---- what is answered
 
 -- F * 1
-pub formula_counts_its_weight : expression_answer names (joined joint.Mul (object (codes "F")) one) ≡ Ok (record { kind = Of kind.Num; dimensions = 1 ∷ []; weight = 9 })
+pub formula_counts_its_weight : measure_answer names (joined joint.Mul (object (codes "F")) one) ≡ Ok (record { kind = Of kind.Num; dimensions = 1 ∷ []; weight = 9 })
 formula_counts_its_weight = simp (fold-roll-Expr) refl
 
 -- p + zz
@@ -210,7 +210,7 @@ pub seven_dimensions : refusal names (joined joint.Add (object (codes "y")) (obj
 seven_dimensions = simp (fold-roll-Expr) refl
 
 -- NA alone is no formula
-pub na_alone : expression_answer names na ≡ Ok (record { kind = Na; dimensions = []; weight = 1 })
+pub na_alone : measure_answer names na ≡ Ok (record { kind = Na; dimensions = []; weight = 1 })
 na_alone = simp (fold-roll-Expr) refl
 
 pub formula_of_na : formula_refusal names na ≡ Some Mismatch

@@ -3,5 +3,6 @@ pub mod FreeDimensions
 pub mod Meanings
 pub mod Names
 pub mod Signatures
+pub mod Trees
 pub mod Types
 pub mod inside

@@ -2,22 +2,26 @@ ghost use Rattle.std.specs.Prelude.{◌≡◌, IfOk, is_some, None, []};
 ghost use Rattle.dml_kinds.specs.Meanings.{names_in};
 ghost use Rattle.dml_kinds.specs.Names as names;
 ghost use Rattle.dml_kinds.specs.Checking as spec;
-ghost use Rattle.dml_kinds.specs.inside.Parts.{part_answer, part_of, formula_part};
+ghost use Rattle.dml_kinds.specs.Trees as trees;
+ghost use Rattle.dml_kinds.specs.inside.Parts.{part_answer, part_of, formula_part, formula_answer_with};
 
 use crate::fault::TypeFault;
 use crate::gathering::{push_targets, push_value_uses};
 use crate::parts::{Part, part_of};
+use crate::resolving::tree_of;
 use crate::scope::{Locals, Scope};
 use crate::signature::Signatures;
+use crate::tree::Tree;
 use crate::types::ValueType;
+use aw_cell::{Kind, Text};
 use aw_lists::{Coord, List};
 use aw_schema::Catalogue;
 use dml_tree::Expr;
 use std::alloc::{AllocError, Global};
 
-/// What an accepted expression is (docs/LANGUAGE.md, "Types").
+/// What an accepted expression is, beside its tree.
 #[derive(Clone, Copy, Debug)]
-pub struct TypedExpr {
+pub struct Measure {
     /// Its type.
     pub kind: ValueType,
     /// Its free dimensions by their numbers, in order of first appearance.
@@ -26,11 +30,64 @@ pub struct TypedExpr {
     pub weight: u32,
 }
 
+/// What an accepted expression is (docs/LANGUAGE.md, "Types").
+#[derive(Debug, Drop)]
+pub struct TypedExpr {
+    /// Its type.
+    pub kind: ValueType,
+    /// Its free dimensions by their numbers, in order of first appearance.
+    pub dimensions: Coord,
+    /// Its weight, at most 4,096.
+    pub weight: u32,
+    /// The expression, with what its names mean in place of the names.
+    pub tree: Tree,
+    /// The kinds of the locals that it may name, in order.
+    pub locals: List<Kind>,
+}
+
+/// What an expression is beside its tree, or what refuses it.
+#[tactic(auto, using(crate::proofs::ExpressionAnswers::settled_expression, crate::proofs::ExpressionAnswers::refused_expression))]
+fn measured(alloc: Global, scope: &Scope, expr: &Expr) -> Result<Measure, TypeFault>
+    ensures { spec.IsAnswer result (spec.measure_answer (names_in scope.now.catalogue.now scope.now.known.now scope.now.locals.now) expr.now) }
+{
+    match refused_names(alloc, scope, expr) {
+        Ok(Some(fault)) => Err(fault),
+        Ok(None) => found(alloc, scope, expr),
+        Err(_) => Err(TypeFault::NoMemory),
+    }
+}
+
+fn kinds_of(alloc: Global, locals: &[(Text, Kind)]) -> Result<Vec<Kind>, AllocError>
+    ensures { IfOk result (λ kinds. kinds.items ≡ spec.kinds_of locals.now) }
+{
+    locals.iter().map(|local| local.1).collect(alloc)
+}
+
+/// An accepted expression, with its tree and the kinds of its locals.
+pub fn with_tree(
+    alloc: Global,
+    scope: &Scope,
+    expr: &Expr,
+    measure: &Measure,
+) -> Result<TypedExpr, AllocError>
+    ensures { IfOk result (λ typed. typed ≡ spec.typed_as measure.now (trees.tree_of (names_in scope.now.catalogue.now scope.now.known.now scope.now.locals.now) expr.now) (spec.kinds_of scope.now.locals.now)) }
+{
+    let kinds = kinds_of(alloc, scope.locals.as_slice())?;
+    let tree = tree_of(alloc, scope, expr)?;
+    Ok(TypedExpr {
+        kind: measure.kind,
+        dimensions: measure.dimensions,
+        weight: measure.weight,
+        tree,
+        locals: List::from_vec(kinds),
+    })
+}
+
 /// Whether an expression is accepted where `catalogue` has these objects, whose texts mean what
 /// `known` tells of them, and the program has these locals, and what it is then. An object with a
 /// text of which nothing is told is unknown. Else the first refusal in the order of TypeFault, each
 /// for the first place from the left (docs/LANGUAGE.md, "Order of refusals").
-#[tactic(auto, using(crate::proofs::ExpressionAnswers::settled_expression, crate::proofs::ExpressionAnswers::refused_expression))]
+#[tactic(auto, using(crate::proofs::ExpressionAnswers::typed_expression, crate::proofs::ExpressionAnswers::untyped_expression))]
 pub fn check_expr(
     alloc: Global,
     expr: &Expr,
@@ -38,17 +95,19 @@ pub fn check_expr(
     known: &Signatures,
     locals: &Locals,
 ) -> Result<TypedExpr, TypeFault>
-    ensures { spec.IsAnswer result (spec.expression_answer (names_in catalogue.now known.now locals.now) expr.now) }
+    ensures { spec.IsAnswer result (spec.expression_answer (names_in catalogue.now known.now locals.now) locals.now expr.now) }
 {
     let scope = Scope {
         catalogue,
         known,
         locals,
     };
-    match refused_names(alloc, &scope, expr) {
-        Ok(Some(fault)) => Err(fault),
-        Ok(None) => found(alloc, &scope, expr),
-        Err(_) => Err(TypeFault::NoMemory),
+    match measured(alloc, &scope, expr) {
+        Ok(measure) => match with_tree(alloc, &scope, expr, &measure) {
+            Ok(typed) => Ok(typed),
+            Err(_) => Err(TypeFault::NoMemory),
+        },
+        Err(fault) => Err(fault),
     }
 }
 
@@ -63,7 +122,7 @@ fn formula_kind(kind: Option<ValueType>) -> Option<ValueType>
 }
 
 /// What is answered of a formula's expression where no name is refused.
-fn found_formula(alloc: Global, scope: &Scope, expr: &Expr) -> Result<TypedExpr, TypeFault>
+fn found_formula(alloc: Global, scope: &Scope, expr: &Expr) -> Result<Measure, TypeFault>
     ensures { spec.IsAnswer result (part_answer (formula_part (names_in scope.now.catalogue.now scope.now.known.now scope.now.locals.now) expr.now)) }
 {
     match part_of(alloc, scope, expr) {
@@ -76,15 +135,29 @@ fn found_formula(alloc: Global, scope: &Scope, expr: &Expr) -> Result<TypedExpr,
     }
 }
 
-/// What is answered of a formula's expression.
+/// What a formula's expression is beside its tree, or what refuses it.
 #[tactic(auto, using(crate::proofs::ExpressionAnswers::settled_formula, crate::proofs::ExpressionAnswers::refused_formula))]
-fn formula_in(alloc: Global, scope: &Scope, expr: &Expr) -> Result<TypedExpr, TypeFault>
-    ensures { spec.IsAnswer result (spec.formula_answer (names_in scope.now.catalogue.now scope.now.known.now scope.now.locals.now) expr.now) }
+fn measured_formula(alloc: Global, scope: &Scope, expr: &Expr) -> Result<Measure, TypeFault>
+    ensures { spec.IsAnswer result (spec.formula_measure_answer (names_in scope.now.catalogue.now scope.now.known.now scope.now.locals.now) expr.now) }
 {
     match refused_names(alloc, scope, expr) {
         Ok(Some(fault)) => Err(fault),
         Ok(None) => found_formula(alloc, scope, expr),
         Err(_) => Err(TypeFault::NoMemory),
+    }
+}
+
+/// What is answered of a formula's expression.
+#[tactic(auto, using(crate::proofs::ExpressionAnswers::typed_formula, crate::proofs::ExpressionAnswers::untyped_formula))]
+fn formula_in(alloc: Global, scope: &Scope, expr: &Expr) -> Result<TypedExpr, TypeFault>
+    ensures { spec.IsAnswer result (formula_answer_with (names_in scope.now.catalogue.now scope.now.known.now scope.now.locals.now) (spec.kinds_of scope.now.locals.now) expr.now) }
+{
+    match measured_formula(alloc, scope, expr) {
+        Ok(measure) => match with_tree(alloc, scope, expr, &measure) {
+            Ok(typed) => Ok(typed),
+            Err(_) => Err(TypeFault::NoMemory),
+        },
+        Err(fault) => Err(fault),
     }
 }
 
@@ -108,7 +181,7 @@ pub fn check_formula(
 }
 
 /// What is answered where no name is refused.
-fn found(alloc: Global, scope: &Scope, expr: &Expr) -> Result<TypedExpr, TypeFault>
+fn found(alloc: Global, scope: &Scope, expr: &Expr) -> Result<Measure, TypeFault>
     ensures { spec.IsAnswer result (part_answer (part_of (names_in scope.now.catalogue.now scope.now.known.now scope.now.locals.now) expr.now)) }
 {
     match part_of(alloc, scope, expr) {
@@ -129,7 +202,7 @@ fn refused_names(alloc: Global, scope: &Scope, expr: &Expr) -> Result<Option<Typ
 }
 
 /// What is answered by what was found of an expression.
-fn settled(part: &Part) -> Result<TypedExpr, TypeFault>
+fn settled(part: &Part) -> Result<Measure, TypeFault>
     ensures { result ≡ part_answer part.now }
 {
     let Some(kind) = part.kind else {
@@ -141,7 +214,7 @@ fn settled(part: &Part) -> Result<TypedExpr, TypeFault>
     if part.weight > 4096 {
         return Err(TypeFault::TooMany);
     }
-    Ok(TypedExpr {
+    Ok(Measure {
         kind,
         dimensions,
         weight: part.weight,

@@ -17,7 +17,7 @@ fn no_dimension() -> Coord
     Coord::of(&[]).unwrap()
 }
 
-fn one_dimension(dimension: u16) -> Coord
+pub(crate) fn one_dimension(dimension: u16) -> Coord
     ensures { result ≡ dimension ∷ [] }
 {
     Coord::of(&[dimension]).unwrap()
@@ -51,7 +51,7 @@ impl<'a> Scope<'a> {
     }
 
     /// The dimension that a name means.
-    fn dimension(&self, name: &Text) -> Option<u16>
+    pub(crate) fn dimension(&self, name: &Text) -> Option<u16>
         ensures { result ≡ spec.dimension_named (spec.names_in self.now.catalogue.now self.now.known.now self.now.locals.now) name.now }
     {
         match self.known(name) {

@@ -1,8 +1,9 @@
 use Rattle.std.proofs.Common.{subst}
 use Rattle.dml_kinds.specs.Meanings.{names_in}
 use Rattle.dml_kinds.specs.Checking as spec
+use Rattle.dml_kinds.specs.inside.Parts.{formula_answer_with}
 use Rattle.dml_kinds.proofs.checking.check_formula.Goals as goal
 
 -- the list of locals is empty
 pub returns : goal.returns
-returns c = subst (λ locals. spec.IsAnswer c.formula_in.result (spec.formula_answer (names_in c.args.catalogue.now c.args.known.now locals) c.args.expr.now)) c.new-locals.ensures c.formula_in.ensures
+returns c = subst (λ locals. spec.IsAnswer c.formula_in.result (formula_answer_with (names_in c.args.catalogue.now c.args.known.now locals) (spec.kinds_of locals) c.args.expr.now)) c.new-locals.ensures c.formula_in.ensures
