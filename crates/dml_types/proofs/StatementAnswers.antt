@@ -12,7 +12,7 @@ use Rattle.dml_kinds.specs.declared.fault.TypeFault.{TypeFault}
 use Rattle.dml_kinds.specs.declared.fault.TypeFault.TheVariants.{Mismatch, Dimensions, TooMany}
 use Rattle.dml_kinds.specs.declared.types.ValueType.{ValueType}
 use Rattle.dml_kinds.specs.declared.types.ValueType.TheVariants.{Na}
-use Rattle.dml_kinds.specs.declared.checking.TypedExpr.{TypedExpr}
+use Rattle.dml_kinds.specs.declared.checking.Measure.{Measure}
 use Rattle.dml_kinds.specs.declared.parts.Part.{Part}
 use Rattle.dml_kinds.specs.declared.meaning.Use.{Use}
 use Rattle.dml_kinds.specs.Signatures.{Told}
@@ -20,7 +20,7 @@ use Rattle.dml_kinds.specs.Meanings.{Names, weight_named}
 use Rattle.dml_kinds.specs.Names.{targets, targets_of_all, uses, groups, names_refusal, named_object}
 use Rattle.dml_kinds.specs.Types.{type_of}
 use Rattle.dml_kinds.specs.FreeDimensions.{first_appearances, target_dimensions, fixes_fit, free_dimensions, dimensions_fit as expression_fits}
-use Rattle.dml_kinds.specs.Checking.{first_refusal, answer, unless, expression_weight, typed}
+use Rattle.dml_kinds.specs.Checking.{first_refusal, answer, unless, expression_weight, measure}
 use Rattle.dml_kinds.specs.inside.Capped.{capped}
 use Rattle.dml_kinds.specs.inside.Parts.{part_of, up_to_six}
 use Rattle.dml_types.specs.declared.checking.Typed.{Typed}
@@ -124,7 +124,7 @@ module _ (names : Names) where
   total_same [] = refl
   total_same (e ∷ es) = capped_sum (expression_weight names e) _ _ (total_same es)
 
-  typed_all : (es : List Expr) → weight_of_all (weight_named names) es ≤ 4096 → list_all (expression_fits names) es ≡ true → map (λ (part : Found). part.expression) (map (found_of names) es) ≡ map (typed names) es
+  typed_all : (es : List Expr) → weight_of_all (weight_named names) es ≤ 4096 → list_all (expression_fits names) es ≡ true → map (λ (part : Found). part.expression) (map (found_of names) es) ≡ map (measure names) es
   typed_all [] small fit = refl
   typed_all (e ∷ es) small fit =
       let both = and_parts (expression_fits names e) (list_all (expression_fits names) es) fit in
@@ -132,7 +132,7 @@ module _ (names : Names) where
       (typed_one (type_of names e) _ (free_dimensions names e) _ (expression_weight names e)
       (free_one (list_all (fixes_fit names) (targets e)) (free_dimensions names e) both.0)
       (light (expression_weight names e) (omega (arith, small))))
-      ∙ ap (λ rest. typed names e ∷ rest) (typed_all es (omega (arith, small)) both.1)
+      ∙ ap (λ rest. measure names e ∷ rest) (typed_all es (omega (arith, small)) both.1)
 
   module _ (known : Told) (s : Statement) where
     types_same : (es : List Expr) → types_fit names known s (map (found_of names) es) ≡ all_types_fit names known s es
@@ -153,7 +153,7 @@ module _ (names : Names) where
         (ap (λ w. nat_le w 4096) (total_same es) ∙ light_same (weight_of_all (weight_named names) es))
         ∙ ap (λ refused. first_refusal refused (all_types_fit names known s es) (statement_dimensions_fit names known s es) (weight_of_all (weight_named names) es)) (sym none)
 
-    abbrev typed_as : List TypedExpr → Typed
+    abbrev typed_as : List Measure → Typed
     typed_as all = record { objects = filter_map (λ (needed : Use). named_object names needed.name) (own_uses s); expressions = all }
 
     abbrev refuses : List Expr → Option TypeFault
@@ -166,7 +166,7 @@ module _ (names : Names) where
         ∙ ap (λ r. answer (first_refusal r (all_types_fit names known s es) (statement_dimensions_fit names known s es) (weight_of_all (weight_named names) es)) (typed_statement names s)) refused
 
     -- what was found of an accepted statement
-    exact : (es : List Expr) → first_refusal None (all_types_fit names known s es) (statement_dimensions_fit names known s es) (weight_of_all (weight_named names) es) ≡ None → map (λ (part : Found). part.expression) (map (found_of names) es) ≡ map (typed names) es
+    exact : (es : List Expr) → first_refusal None (all_types_fit names known s es) (statement_dimensions_fit names known s es) (weight_of_all (weight_named names) es) ≡ None → map (λ (part : Found). part.expression) (map (found_of names) es) ≡ map (measure names) es
     exact es none =
         let both = accepted (all_types_fit names known s es) (statement_dimensions_fit names known s es) (weight_of_all (weight_named names) es) none in
         typed_all es (is_light _ both.1) (and_parts (list_all (expression_fits names) es) _ both.0).0
@@ -180,13 +180,13 @@ module _ (names : Names) where
     same_answer (Some fault) one other same = refl
     same_answer None one other same = ap (λ value. answer None value) (same refl)
 
-    settled_with : (es : List Expr) → refuses es ≡ None → answer (parts_refusal names known s (map (found_of names) es)) (typed_parts names (own_uses s) (map (found_of names) es)) ≡ answer (refusal_with names known s es) (record { objects = filter_map (λ (needed : Use). named_object names needed.name) (own_uses s); expressions = map (typed names) es })
+    settled_with : (es : List Expr) → refuses es ≡ None → answer (parts_refusal names known s (map (found_of names) es)) (typed_parts names (own_uses s) (map (found_of names) es)) ≡ answer (refusal_with names known s es) (record { objects = filter_map (λ (needed : Use). named_object names needed.name) (own_uses s); expressions = map (measure names) es })
     settled_with es none =
         ap (λ r. answer r (typed_parts names (own_uses s) (map (found_of names) es))) (refusal_same es none)
-        ∙ same_answer (refusal_with names known s es) _ _ (λ not. ap (λ (all : List TypedExpr). typed_as all) (exact es (refused_none es none ∙ not)))
+        ∙ same_answer (refusal_with names known s es) _ _ (λ not. ap (λ (all : List Measure). typed_as all) (exact es (refused_none es none ∙ not)))
 
     -- no name is refused
     pub settled_statement : (es : List Expr) → es ≡ expressions names s → names_refusal names (own_uses s ++ uses (targets_of_all es)) (own_group s ∷ groups (targets_of_all es)) ≡ None → parts_answer names known s (own_uses s) (map (found_of names) es) ≡ statement_answer names known s
     settled_statement es those none =
         settled_with es none
-        ∙ ap (λ all. answer (refusal_with names known s all) (typed_as (map (typed names) all))) those
+        ∙ ap (λ all. answer (refusal_with names known s all) (typed_as (map (measure names) all))) those

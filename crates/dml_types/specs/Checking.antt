@@ -11,7 +11,7 @@ use Rattle.dml_kinds.specs.Meanings.{Names, weight_named}
 use Rattle.dml_kinds.specs.Names.{targets_of_all, uses, groups, names_refusal, named_object}
 use Rattle.dml_kinds.specs.Types.{type_of}
 use Rattle.dml_kinds.specs.FreeDimensions.{free_dimensions, dimensions_fit}
-use Rattle.dml_kinds.specs.Checking.{first_refusal, answer, typed}
+use Rattle.dml_kinds.specs.Checking.{first_refusal, answer, measure}
 use Rattle.dml_types.specs.declared.checking.Typed.{Typed}
 use Rattle.dml_types.specs.Statements.{own_uses, own_group, expressions, own_types_fit, own_dimensions_fit}
 
@@ -21,7 +21,7 @@ module _ (names : Names) where
   typed_statement s =
       record {
         objects = filter_map (λ (needed : Use). named_object names needed.name) (own_uses s);
-        expressions = map (typed names) (expressions names s);
+        expressions = map (measure names) (expressions names s);
       }
 
   abbrev pub are_typed : List Expr → Bool

@@ -14,7 +14,7 @@ use aw_cell::Text;
 use aw_lists::List;
 use aw_schema::Catalogue;
 use dml_kinds::{
-    Locals, Scope, Signatures, TypeFault, TypedExpr, Use, push_targets, push_value_uses,
+    Locals, Measure, Scope, Signatures, TypeFault, Use, push_targets, push_value_uses,
 };
 use dml_tree::{Expr, Statement, Target};
 use std::alloc::{AllocError, Global};
@@ -26,7 +26,7 @@ pub struct Typed {
     /// defined, and the object's number. A local is none.
     pub objects: List<(Text, u16)>,
     /// Its expressions in the order written. A valueset that LIMIT selects is none.
-    pub expressions: List<TypedExpr>,
+    pub expressions: List<Measure>,
 }
 
 /// Whether a statement is accepted where `catalogue` has these objects, whose texts mean what

@@ -10,5 +10,5 @@ mod own_names;
 
 pub use checking::{Typed, check};
 pub use dml_kinds::{
-    Known, Locals, Meaning, Signature, Signatures, TypeFault, TypedExpr, ValueType, check_expr,
+    Known, Locals, Meaning, Measure, Signature, Signatures, TypeFault, ValueType, check_expr,
 };

@@ -6,7 +6,7 @@ ghost use Rattle.dml_types.specs.inside.Parts as spec;
 
 use crate::fitting::{own_dimensions_fit, own_types_fit};
 use aw_lists::{Coord, List};
-use dml_kinds::{Part, Scope, TypeFault, TypedExpr, ValueType, part_of};
+use dml_kinds::{Measure, Part, Scope, TypeFault, ValueType, part_of};
 use dml_tree::{Expr, Statement};
 use std::alloc::{AllocError, Global};
 
@@ -18,7 +18,7 @@ pub struct Found {
     /// Whether its dimensions fit.
     pub is_measured: bool,
     /// What it is where both do. Its weight is the greatest number where it weighs more.
-    pub expression: TypedExpr,
+    pub expression: Measure,
 }
 
 /// What is found of each of these expressions.
@@ -57,10 +57,10 @@ fn no_dimension() -> Coord
 }
 
 /// An expression, as it is where it is accepted.
-fn typed_part(part: &Part) -> TypedExpr
+fn typed_part(part: &Part) -> Measure
     ensures { result ≡ spec.typed_part part.now }
 {
-    TypedExpr {
+    Measure {
         kind: part.kind.unwrap_or(ValueType::Na),
         dimensions: part.dimensions.unwrap_or(no_dimension()),
         weight: part.weight,
@@ -169,14 +169,14 @@ pub(crate) fn parts_refusal(
     Ok(None)
 }
 
-fn typed_parts(alloc: Global, parts: &[Found]) -> Result<Vec<TypedExpr>, AllocError>
+fn typed_parts(alloc: Global, parts: &[Found]) -> Result<Vec<Measure>, AllocError>
     ensures { IfOk result (λ all. all.items ≡ map (λ part. part.expression) parts.now) }
 {
     parts.iter().map(|part| part.expression).collect(alloc)
 }
 
 /// The expressions of an accepted statement.
-pub(crate) fn typed_list(alloc: Global, parts: &[Found]) -> Result<List<TypedExpr>, AllocError>
+pub(crate) fn typed_list(alloc: Global, parts: &[Found]) -> Result<List<Measure>, AllocError>
     ensures { IfOk result (λ all. all ≡ map (λ part. part.expression) parts.now) }
 {
     let all = typed_parts(alloc, parts)?;

@@ -6,7 +6,7 @@ use Rattle.dml_tree.specs.declared.statement.Statement.{Statement}
 use Rattle.dml_kinds.specs.declared.fault.TypeFault.{TypeFault}
 use Rattle.dml_kinds.specs.declared.types.ValueType.TheVariants.{Na}
 use Rattle.dml_kinds.specs.declared.parts.Part.{Part}
-use Rattle.dml_kinds.specs.declared.checking.TypedExpr.{TypedExpr}
+use Rattle.dml_kinds.specs.declared.checking.Measure.{Measure}
 use Rattle.dml_kinds.specs.Signatures.{Told}
 use Rattle.dml_kinds.specs.Meanings.{Names}
 use Rattle.dml_kinds.specs.declared.meaning.Use.{Use}
@@ -22,7 +22,7 @@ abbrev pub total_weight : List Found → ℕ
 total_weight [] = 0
 total_weight (part ∷ parts) = part.expression.weight + total_weight parts
 
-abbrev pub typed_part : Part → TypedExpr
+abbrev pub typed_part : Part → Measure
 typed_part part = record { kind = unwrap_or part.kind Na; dimensions = unwrap_or part.dimensions []; weight = part.weight }
 
 abbrev pub found_as : Part → Found
