@@ -1,0 +1,9 @@
+pub mod Choices
+pub mod KeptCode
+pub mod MovedOps
+pub mod NamesOfTrees
+pub mod Patches
+pub mod TreeCode
+pub mod TreeValues
+pub mod ValuesOfOps
+pub mod Worked

@@ -1,0 +1,4 @@
+pub mod Compiled
+pub mod FormulasView
+pub mod Values
+pub mod inside

@@ -1,0 +1,3 @@
+-- What private functions alone need.
+pub mod Emitted
+pub mod Library

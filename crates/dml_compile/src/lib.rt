@@ -1,0 +1,12 @@
+//! Code of typed expressions.
+#![tactic(auto)]
+
+mod compiling;
+mod draft;
+mod emitting;
+mod formulas;
+mod moving;
+mod naming;
+
+pub use compiling::compile;
+pub use formulas::{Formula, Formulas};
