@@ -1,4 +1,5 @@
 pub mod Choices
+pub mod CompiledCode
 pub mod KeptCode
 pub mod MovedOps
 pub mod NamesOfTrees
