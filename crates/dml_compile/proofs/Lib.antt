@@ -3,6 +3,7 @@ pub mod CompiledCode
 pub mod KeptCode
 pub mod MovedOps
 pub mod NamesOfTrees
+pub mod ObjectKinds
 pub mod Patches
 pub mod TreeCode
 pub mod TreeValues

@@ -1,4 +1,5 @@
 pub mod Compiled
 pub mod FormulasView
+pub mod Objects
 pub mod Values
 pub mod inside

@@ -1,12 +1,15 @@
-ghost use Rattle.std.specs.Prelude.{◌≡◌, ◌==◌, ◌∷◌, [], find, reverse, OnOk, OnErr};
+ghost use Rattle.std.specs.Prelude.{◌≡◌, ◌==◌, ◌∷◌, [], find, reverse, IfOk, OnOk, OnErr};
 ghost use Rattle.std.specs.Option.{option_copied};
 ghost use Rattle.dml_compile.specs.FormulasView.{formula_tree};
+ghost use Rattle.dml_compile.specs.Objects.{object_kinds};
 ghost use Rattle.dml_compile.specs.inside.Emitted.{formula_code};
 ghost use Rattle.dml_compile.specs.inside.Library.{IsCodeOf};
 
 use crate::compiling::compiled;
+use crate::objects::object_kinds;
 use aw_lists::List;
-use dml_exec::{Code, Kinds, ObjectKind};
+use aw_schema::Catalogue;
+use dml_exec::{Code, Kinds};
 use dml_kinds::TypedExpr;
 use std::alloc::{AllocError, Global};
 use std::marker::Model;
@@ -57,18 +60,19 @@ fn found(formulas: &[Formula], object: u16) -> Option<&Formula>
 }
 
 impl Formulas {
-    /// No formulas, of objects of these kinds.
-    pub fn new(alloc: Global, objects: List<ObjectKind>) -> Formulas
-        ensures objects { result.objects ≡ objects }
-        ensures trees { result.trees ≡ [] }
+    /// No formulas, of a catalogue with these objects.
+    pub fn new(alloc: Global, catalogue: &Catalogue) -> Result<Formulas, AllocError>
+        ensures objects { IfOk result (λ library. library.objects ≡ object_kinds catalogue.now) }
+        ensures trees { IfOk result (λ library. library.trees ≡ []) }
     {
-        Formulas {
+        let objects = object_kinds(alloc, catalogue)?;
+        Ok(Formulas {
             kinds: Kinds {
-                objects,
+                objects: List::from_vec(objects),
                 locals: List::new(alloc),
             },
             formulas: Vec::new(alloc),
-        }
+        })
     }
 
     /// The code of a formula, or `None` where it is unknown.

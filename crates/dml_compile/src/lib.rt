@@ -7,6 +7,7 @@ mod emitting;
 mod formulas;
 mod moving;
 mod naming;
+mod objects;
 
 pub use compiling::compile;
 pub use formulas::{Formula, Formulas};
