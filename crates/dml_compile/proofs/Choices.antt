@@ -1,11 +1,11 @@
 -- The ops of a choice have its value.
-use Rattle.std.proofs.Common.{◌≡◌, ◌∙◌, ℕ, ◌+◌, ◌<◌, ◌≤◌, true, false, List, [], ◌∷◌, ◌++◌, length, Option, Some, None, Ok, Err, refl, sym, ap, subst, arith, append_assoc, length-append}
+use Rattle.std.proofs.Common.{◌≡◌, ◌∙◌, ℕ, ◌+◌, ◌≤◌, true, false, List, [], ◌∷◌, ◌++◌, length, Option, Some, None, Ok, Err, refl, ap, subst, arith, append_assoc, length-append}
 use Rattle.aw_cell.specs.declared.cell.Cell.{Cell}
 use Rattle.aw_cell.specs.declared.cell.Cell.TheVariants.{Na, Num, Int, Text, Bool, Slot}
 use Rattle.aw_cell.specs.declared.cell.Kind.{Kind}
 use Rattle.dml_exec.specs.declared.op.Op.{Op}
 use Rattle.dml_exec.specs.declared.op.Op.TheVariants.{Push, Branch, Jump}
-use Rattle.dml_exec.specs.Meaning.{CodeInputs, Outcome, turn, then_on, going}
+use Rattle.dml_exec.specs.Meaning.{CodeInputs, Outcome, then_on, going}
 use Rattle.dml_compile.specs.Values.{Value, chosen_by, chosen}
 use Rattle.dml_compile.specs.inside.Emitted.{no_place, na_place, choice_ops}
 use Rattle.dml_compile.proofs.ValuesOfOps.{Told, stood, Computes, at_place, passed_over, skipped}

@@ -1,5 +1,5 @@
 -- What was accepted with the ops of a tree is code of the tree.
-use Rattle.std.specs.Prelude.{ℕ, List, Result, Ok, Err, IfOk}
+use Rattle.std.specs.Prelude.{List, Result, Ok, Err, IfOk}
 use Rattle.aw_cell.specs.declared.cell.Kind.{Kind}
 use Rattle.dml_kinds.specs.declared.tree.Tree.{Tree}
 use Rattle.dml_exec.specs.declared.code.Code.{Code}

@@ -1,12 +1,10 @@
 -- The ops of a formula at another place, with values that are fixed.
-use Rattle.std.proofs.Common.{◌≡◌, ◌∙◌, ℕ, zero, suc, ◌+◌, ◌-◌, ◌<◌, ◌≤◌, ◌⊎◌, Bool as Truth, true, false, cond, eqb, eq-eqb, List, [], ◌∷◌, ◌++◌, length, map, drop, Option, Some, None, Ok, Err, option_map, option_and_then, refl, sym, ap, subst, ⊎_elim, inl, inr, arith, append_assoc, length-append}
+use Rattle.std.proofs.Common.{◌≡◌, ◌∙◌, ℕ, zero, suc, ◌+◌, ◌-◌, ◌⊎◌, Bool as Truth, true, false, cond, eqb, eq-eqb, List, [], ◌∷◌, ◌++◌, length, map, drop, Option, Some, None, Ok, Err, option_map, option_and_then, refl, sym, ap, subst, ⊎_elim, arith}
 use Rattle.std.specs.Prelude.{nat_le, slice_get}
 use Rattle.std.specs.List.{find}
 use Rattle.std.proofs.lemmas.Bool.{ne_eqb, eqb-true, cases_eq}
 use Rattle.aw_cell.specs.declared.cell.Cell.{Cell}
 use Rattle.aw_cell.specs.declared.cell.Cell.TheVariants.{Na, Num, Int, Text as Chars, Bool, Slot}
-use Rattle.aw_cell.specs.declared.cell.Kind.{Kind}
-use Rattle.aw_cell.specs.declared.cell.Kind.TheVariants.{Text as TEXT}
 use Rattle.dml_kinds.specs.declared.tree.FixedValue.{FixedValue}
 use Rattle.dml_exec.specs.declared.op.Axis.{Axis}
 use Rattle.dml_exec.specs.declared.op.Axis.TheVariants.{Free, Fixed}
@@ -17,11 +15,11 @@ use Rattle.dml_exec.specs.declared.operator.Unary.TheVariants.{Neg as Negates, A
 use Rattle.dml_exec.specs.declared.operator.Binary.{Binary}
 use Rattle.dml_exec.specs.declared.operator.Binary.TheVariants.{Add as Adds, Sub as Subtracts, Mul as Multiplies, Div as Divides, Min as TakesLeast, Max as TakesGreatest, NaFill as Fills, Compare as Compares, And as Joins, Or as Offers}
 use Rattle.dml_exec.specs.Operators.{when, of_one, of_two}
-use Rattle.dml_exec.specs.Meaning.{CodeInputs, Standing, Outcome, slot_at, slot_of_axis, slots_of, coordinate, answered, pushed, on_one, on_two, name_of, named, branched, on_branch, turn, then_on, going}
+use Rattle.dml_exec.specs.Meaning.{CodeInputs, Standing, Outcome, slot_at, slot_of_axis, slots_of, coordinate, answered, pushed, on_one, on_two, name_of, named, on_branch, turn, then_on, going}
 use Rattle.dml_compile.specs.Values.{Value, at_fixes}
 use Rattle.dml_compile.specs.Compiled.{fixes_of, seen_by}
-use Rattle.dml_compile.specs.inside.Emitted.{axis_of, fixed_in, moved_axis, moved_name, moved}
-use Rattle.dml_compile.proofs.ValuesOfOps.{Told, stood, Computes}
+use Rattle.dml_compile.specs.inside.Emitted.{fixed_in, moved_axis, moved_name, moved}
+use Rattle.dml_compile.proofs.ValuesOfOps.{stood, Computes}
 use Rattle.dml_compile.proofs.NamesOfTrees.{KnownAt, axis_is}
 
 -- a standing so many places further on

@@ -1,5 +1,5 @@
 -- The ops of names have their values, where the slots of fixed values were looked up.
-use Rattle.std.proofs.Common.{◌≡◌, ◌∙◌, ℕ, ◌+◌, Bool as Truth, true, false, cond, eqb, List, [], ◌∷◌, ◌++◌, length, map, Option, Some, None, Ok, Err, option_map, option_and_then, refl, sym, ap, subst, arith}
+use Rattle.std.proofs.Common.{◌≡◌, ℕ, ◌+◌, Bool as Truth, true, false, cond, eqb, List, [], ◌∷◌, ◌++◌, length, map, Option, Some, None, Ok, option_map, option_and_then, refl, sym, ap, subst, arith}
 use Rattle.std.specs.Prelude.{nat_le, unwrap_or, slice_get}
 use Rattle.std.specs.List.{find}
 use Rattle.aw_cell.specs.declared.cell.Cell.{Cell}
@@ -7,12 +7,10 @@ use Rattle.aw_cell.specs.declared.cell.Cell.TheVariants.{Na, Num, Int, Text as C
 use Rattle.dml_kinds.specs.declared.tree.FixedValue.{FixedValue}
 use Rattle.dml_kinds.specs.declared.tree.Taken.{Taken}
 use Rattle.dml_exec.specs.declared.kinds.Fix.{Fix}
-use Rattle.dml_exec.specs.declared.op.Axis.{Axis}
-use Rattle.dml_exec.specs.declared.op.Axis.TheVariants.{Free, Fixed}
-use Rattle.dml_exec.specs.declared.op.Op.{Op}
-use Rattle.dml_exec.specs.declared.op.Op.TheVariants.{Local, Load, Name, NameOf}
+use Rattle.dml_exec.specs.declared.op.Axis.TheVariants.{Fixed}
+use Rattle.dml_exec.specs.declared.op.Op.TheVariants.{Local, Name, NameOf}
 use Rattle.dml_exec.specs.Operators.{when}
-use Rattle.dml_exec.specs.Meaning.{CodeInputs, slot_at, slot_of_axis, slots_of, coordinate, pushed, turn, going}
+use Rattle.dml_exec.specs.Meaning.{CodeInputs, slot_at, slot_of_axis, slots_of, coordinate, pushed}
 use Rattle.dml_exec.specs.Meaning.{name_of as named_cell}
 use Rattle.dml_compile.specs.Values.{Value, Place, slot_in, at_fixes, cell_taken, name_of}
 use Rattle.dml_compile.specs.Compiled.{fixes_of, seen_by}

@@ -1,19 +1,17 @@
 -- Code that has the ops of a tree is code of the tree.
-use Rattle.std.proofs.Common.{◌≡◌, ◌∙◌, ℕ, zero, suc, ◌+◌, ◌<◌, Bool as Truth, true, false, cond, eqb, eq-eqb, List, [], ◌∷◌, ◌++◌, length, map, Option, Some, None, Ok, Err, option_map, All, refl, sym, ap, subst, arith}
-use Rattle.std.specs.Prelude.{slice_get, slice_index_or}
-use Rattle.aw_cell.specs.declared.cell.Cell.{Cell}
+use Rattle.std.proofs.Common.{◌≡◌, ◌∙◌, ℕ, zero, suc, ◌+◌, Bool as Truth, true, false, cond, eqb, eq-eqb, List, [], ◌∷◌, ◌++◌, length, map, Option, Some, None, Ok, Err, All, refl, sym, ap, subst, arith}
+use Rattle.std.specs.Prelude.{slice_get}
 use Rattle.aw_cell.specs.declared.cell.Cell.TheVariants.{Text as Chars}
 use Rattle.aw_cell.specs.declared.cell.Kind.{Kind}
-use Rattle.dml_kinds.specs.declared.tree.Taken.{Taken}
-use Rattle.dml_kinds.specs.declared.tree.Tree.{Tree, fold-Tree, roll-Tree, map-Tree}
+use Rattle.dml_kinds.specs.declared.tree.Tree.{Tree, roll-Tree, map-Tree}
 use Rattle.dml_kinds.specs.declared.tree.Tree.TheOpen.{Tree-F}
 use Rattle.dml_kinds.specs.declared.tree.Tree.TheFolds.{fold-roll-Tree, ind-Tree}
 use Rattle.dml_exec.specs.declared.code.Code.{Code}
 use Rattle.dml_exec.specs.declared.kinds.Fix.{Fix}
 use Rattle.dml_exec.specs.declared.kinds.Kinds.{Kinds}
 use Rattle.dml_exec.specs.declared.op.Op.{Op}
-use Rattle.dml_exec.specs.CodeRuns.{Accepts, Fits, AcceptedCodeIsNeverStuck}
-use Rattle.dml_exec.specs.Meaning.{CodeInputs, Outcome, then_on, going, sole, ended, meaning}
+use Rattle.dml_exec.specs.CodeRuns.{Accepts, AcceptedCodeIsNeverStuck}
+use Rattle.dml_exec.specs.Meaning.{CodeInputs, then_on, going, sole, ended, meaning}
 use Rattle.dml_compile.specs.Values.{Value, FormulaTree, formula_value, tree_value}
 use Rattle.dml_compile.specs.Compiled.{fixes_of, level_fixes, fixes_in, formula_fixes, tree_fixes, seen_by, LooksUp, Compiles}
 use Rattle.dml_compile.specs.inside.Emitted.{FormulaCode, Emitted, level_emitted, emitted, formula_code}

@@ -1,11 +1,10 @@
 -- The ops of a tree have its value.
-use Rattle.std.proofs.Common.{◌≡◌, ℕ, zero, suc, ◌+◌, ◌&&◌, Bool as Truth, true, false, cond, eqb, List, [], ◌∷◌, ◌++◌, length, map, Option, Some, None, Ok, Err, refl, sym, ap, subst, arith, All, get_or, drop, ◌∙◌}
+use Rattle.std.proofs.Common.{◌≡◌, ℕ, ◌+◌, ◌&&◌, Bool as Truth, true, false, cond, eqb, List, [], ◌∷◌, ◌++◌, length, map, Some, Ok, refl, sym, ap, subst, arith, drop, ◌∙◌}
 use Rattle.std.specs.Prelude.{slice_get}
 use Rattle.aw_cell.specs.declared.cell.Cell.{Cell}
-use Rattle.aw_cell.specs.declared.cell.Cell.TheVariants.{Na, Num, Int, Text as Chars, Bool, Slot}
+use Rattle.aw_cell.specs.declared.cell.Cell.TheVariants.{Na}
 use Rattle.aw_cell.specs.declared.cell.Kind.{Kind}
 use Rattle.aw_cell.specs.declared.cell.Kind.TheVariants.{Num as NUMBER, Int as INTEGER, Bool as BOOLEAN}
-use Rattle.aw_cell.specs.declared.comparison.Order.{Order}
 use Rattle.aw_cell.specs.CellArithmetic.{is_numeric, can_be_converted, converted, cell_sum, cell_difference, cell_product, cell_quotient, cell_negation, cell_size, cell_least, cell_greatest}
 use Rattle.aw_cell.specs.Comparison.{can_be_compared, compared}
 use Rattle.aw_cell.specs.Logic.{is_truth, both, either, negated}
@@ -13,7 +12,7 @@ use Rattle.dml_tree.specs.declared.expr.Joint.{Joint}
 use Rattle.dml_tree.specs.declared.expr.Joint.TheVariants as joint
 use Rattle.dml_kinds.specs.declared.types.ValueType.{ValueType}
 use Rattle.dml_kinds.specs.declared.tree.Taken.{Taken}
-use Rattle.dml_kinds.specs.declared.tree.Tree.{Tree, fold-Tree, roll-Tree, map-Tree}
+use Rattle.dml_kinds.specs.declared.tree.Tree.{Tree, roll-Tree, map-Tree}
 use Rattle.dml_kinds.specs.declared.tree.Tree.TheOpen.{Tree-F}
 use Rattle.dml_kinds.specs.declared.tree.Tree.TheFolds.{fold-roll-Tree, ind-Tree}
 use Rattle.dml_exec.specs.declared.kinds.Fix.{Fix}

@@ -1,14 +1,10 @@
 -- Ops that have a value, wherever they stand.
-use Rattle.std.proofs.Common.{◌≡◌, ◌∙◌, ℕ, zero, suc, ◌+◌, ◌-◌, ◌<◌, ◌≤◌, Bool as Truth, true, false, cond, eqb, eq-eqb, List, [], ◌∷◌, ◌++◌, length, map, drop, Option, Some, None, Ok, Err, option_map, refl, sym, ap, subst, ⊎_elim, inl, inr, arith, append_assoc, length-append}
-use Rattle.std.proofs.lemmas.Bool.{ne_eqb, cases_Bool}
+use Rattle.std.proofs.Common.{◌≡◌, ◌∙◌, ℕ, suc, ◌+◌, ◌-◌, ◌<◌, ◌≤◌, Bool as Truth, cond, eq-eqb, List, [], ◌∷◌, ◌++◌, length, Option, Some, None, Ok, Err, option_map, refl, ap, subst, arith, append_assoc, length-append}
+use Rattle.std.proofs.lemmas.Bool.{ne_eqb}
 use Rattle.aw_cell.specs.declared.cell.Cell.{Cell}
-use Rattle.aw_cell.specs.declared.cell.Cell.TheVariants.{Na, Num, Int, Text, Bool, Slot}
-use Rattle.aw_cell.specs.declared.cell.Kind.{Kind}
 use Rattle.dml_exec.specs.declared.op.Op.{Op}
-use Rattle.dml_exec.specs.declared.op.Op.TheVariants.{Push, Branch, Jump}
 use Rattle.dml_exec.specs.Meaning.{CodeInputs, Outcome, answered, turn, then_on, going}
-use Rattle.dml_compile.specs.Values.{Value, on_one, on_two, chosen_by, chosen}
-use Rattle.dml_compile.specs.inside.Emitted.{choice_ops}
+use Rattle.dml_compile.specs.Values.{Value, on_one, on_two}
 
 -- nothing, or this
 abbrev pub Told : {A : Type 0} → Option A → A → Type 0

@@ -1,8 +1,8 @@
 -- Worked cases, each worked out by hand: values of expressions.
-use Rattle.std.proofs.Common.{◌≡◌, ℕ, ◌+◌, ◌*◌, List, [], ◌∷◌, Some, None, Ok, Err, refl, pos, true, false}
+use Rattle.std.proofs.Common.{◌≡◌, ℕ, ◌*◌, List, [], ◌∷◌, Ok, Err, refl, pos, false}
 use Rattle.std.specs.Prelude.{codes}
 use Rattle.aw_cell.specs.declared.cell.Cell.{Cell}
-use Rattle.aw_cell.specs.declared.cell.Cell.TheVariants.{Na, Num, Int, Text as Chars, Bool, Slot}
+use Rattle.aw_cell.specs.declared.cell.Cell.TheVariants.{Na, Num, Int, Text as Chars, Bool}
 use Rattle.aw_cell.specs.declared.cell.Kind.TheVariants as kind
 use Rattle.aw_cell.specs.declared.number.Arith.TheVariants.{DivideByZero}
 use Rattle.dml_tree.specs.declared.expr.Joint.TheVariants as joint
