@@ -5,10 +5,10 @@ use crate::definitions::line_tokens;
 use aw_cell::{Kind, Operator, Text, is_name};
 use aw_lists::{Coord, List};
 use aw_schema::{Catalogue, Def, DefKind};
-use dml_kinds::check_formula;
+use dml_kinds::{TypedExpr, check_formula};
 use dml_parse::{ParseFault, statement};
 use dml_tree::{Expr, Statement};
-use dml_types::{Locals, Signature, Signatures, TypeFault, Typed, TypedExpr, check, check_expr};
+use dml_types::{Locals, Measure, Signature, Signatures, TypeFault, Typed, check, check_expr};
 use std::alloc::Global;
 use std::fmt::Write;
 use std::test::Fail;
@@ -99,12 +99,20 @@ fn sample_names(alloc: Global) -> Result<Names, Fail> {
 }
 
 /// An expression's type, the numbers of its dimensions and its weight.
-fn write_expression(text: &mut String, typed: &TypedExpr) -> Result<(), Fail> {
+fn write_expression(text: &mut String, measure: &Measure) -> Result<(), Fail> {
     Ok(write!(
         text,
         "{:?} {:?} {}",
-        typed.kind, typed.dimensions, typed.weight
+        measure.kind, measure.dimensions, measure.weight
     )?)
+}
+
+fn measure_of(typed: &TypedExpr) -> Measure {
+    Measure {
+        kind: typed.kind,
+        dimensions: typed.dimensions,
+        weight: typed.weight,
+    }
 }
 
 /// The objects that a statement names, and then its expressions.
@@ -213,7 +221,7 @@ fn is_told(
 ) -> Result<bool, Fail> {
     let mut text = String::new(alloc);
     match answer {
-        Ok(typed) => write_expression(&mut text, typed)?,
+        Ok(typed) => write_expression(&mut text, &measure_of(typed))?,
         Err(fault) => write!(text, "{fault:?}")?,
     }
     Ok(text.as_str() == expected)
