@@ -1,13 +1,13 @@
 -- What `retain_mut` leaves of a list of listeners, where each call of its closure asks one of them.
 use denote.Ref.{MutBor}
 use denote.Param.Members.{Mut}
-use Rattle.std.proofs.Common.{◌≡◌, ◌∙◌, ap, subst, ℕ, Bool, true, false, not, ◌||◌, cond, if◌then◌else◌, List, [], ◌∷◌, map, Option, None, Some, IfSome, is_none, filter_map, refl}
+use Rattle.std.proofs.Common.{◌≡◌, ◌∙◌, ap, subst, ℕ, Bool, true, false, not, ◌||◌, cond, if◌then◌else◌, List, [], ◌∷◌, map, Option, None, Some, IfSome, refl}
 use Rattle.std.specs.Fn.{Called, CalledAtMut}
-use Rattle.std.specs.List.{AllZip, list_any}
+use Rattle.std.specs.List.{list_any}
 use Rattle.std.specs.List.Retain.{RetainsInTurn}
 use Rattle.aw_feed.specs.declared.listener.Heard.TheVariants.{Stay, Gone}
 use Rattle.aw_feed.specs.Listener.{Note, Hears, goes_at}
-use Rattle.aw_feed.specs.Feed.{Listening, HasHeard, HaveHeard}
+use Rattle.aw_feed.specs.Feed.{Listening, HaveHeard}
 
 -- a listener heard of this note, and said whether it stays
 abbrev pub Answered : Note → Listening → Bool → Listening → Type 0
