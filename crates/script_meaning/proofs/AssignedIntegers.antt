@@ -1,5 +1,5 @@
 -- What a session's line assigns is an INTEGER.
-use Rattle.std.specs.Prelude.{◌≡◌, Bool, true, false, cond, ◌==◌, ◌&&◌, ℕ, ℤ, pos, negsuc, nat_le, length, List, [], ◌∷◌, Option, Some, None, Result, Ok, Err, refl}
+use Rattle.std.specs.Prelude.{◌≡◌, Bool, true, false, cond, ℕ, ℤ, pos, negsuc, nat_le, List, Option, Some, None, Result, Ok, Err, refl}
 use Rattle.std.specs.Option.{option_map}
 use Rattle.std.proofs.Common.{arith}
 use Rattle.std.proofs.lemmas.Bool.{leb-true}
@@ -8,7 +8,6 @@ use Rattle.aw_codec.specs.Records.{IsSpelled}
 use Rattle.aw_schema.specs.declared.definition.Def.{Def}
 use Rattle.dml_tree.specs.declared.expr.Expr.{Expr, out-Expr}
 use Rattle.dml_tree.specs.declared.expr.Expr.TheOpen.{Expr-F}
-use Rattle.dml_tree.specs.declared.statement.Mode.TheVariants as mode
 use Rattle.dml_tree.specs.declared.statement.Statement.{Statement}
 use Rattle.dml_tree.specs.declared.statement.Statement.TheVariants as statement
 use Rattle.dml_grammar.specs.declared.fault.ParseFault.{ParseFault}
@@ -19,8 +18,8 @@ use Rattle.ses_step.specs.declared.command.Asked.TheVariants.{Runs, Refused}
 use Rattle.ses_step.specs.declared.command.Command.{Command}
 use Rattle.ses_step.specs.declared.command.Command.TheVariants as command
 use Rattle.ses_step.specs.declared.session.Known.{Known as Session}
-use Rattle.ses_step.specs.Commands.{name_alone, name_in, without_sign, integer_in, acquire_of, update_of, assignment_of, command_of}
-use Rattle.ses_step.specs.Refusing.{statement_refusal}
+use Rattle.ses_step.specs.Commands.{name_alone, name_in, without_sign, integer_in, assignment_of, command_of}
+use Rattle.ses_step.specs.Refusing.{objects_named, statement_refusal}
 use Rattle.ses_step.specs.SessionLines.{runs, asked_unless, asked_by, asked}
 
 -- an INTEGER that a record can hold
@@ -63,48 +62,30 @@ assignment-fits None value fits = tt
 assignment-fits (Some name) None fits = tt
 assignment-fits (Some name) (Some value) fits = fits
 
-acquire-fits : (keep fresh same : List (List ℕ)) → MayAssign (acquire_of keep fresh same)
-acquire-fits [] fresh same = tt
-acquire-fits (name ∷ []) fresh same = by (length fresh == 0 && length same == 0)
-  where
-    by : (alone : Bool) → MayAssign (cond alone (Some (command.Acquire name)) None)
-    by true = tt
-    by false = tt
-acquire-fits (name ∷ other ∷ names) fresh same = tt
-
-update-fits : (names : List (List ℕ)) → MayAssign (update_of names)
-update-fits [] = tt
-update-fits (name ∷ names) = by (length (name ∷ names) == 0)
-  where
-    by : (none : Bool) → MayAssign (cond none (Some command.Update) None)
-    by true = tt
-    by false = tt
-
 show-fits : (name : Option (List ℕ)) → MayAssign (option_map command.Show name)
 show-fits None = tt
 show-fits (Some name) = tt
 
-command-fits : (s : Statement) → MayAssign (command_of s)
-command-fits (statement.Attach mode.Multi) = tt
-command-fits (statement.Attach mode.ReadOnly) = tt
-command-fits statement.Detach = tt
-command-fits statement.Commit = tt
-command-fits (statement.Acquire keep fresh same) = acquire-fits keep fresh same
-command-fits (statement.Resync names) = tt
-command-fits (statement.Release names) = tt
-command-fits (statement.Revert names) = tt
-command-fits (statement.Update names) = update-fits names
-command-fits (statement.Add dimension values place) = tt
-command-fits (statement.Delete dimension values) = tt
-command-fits (statement.Move dimension values place) = tt
-command-fits (statement.Rename dimension was text) = tt
-command-fits (statement.Assign target e) = assignment-fits (name_alone target) (integer_in e) (level-fits (out-Expr e))
-command-fits (statement.Show e) = show-fits (name_in e)
-command-fits (statement.Report e) = tt
-command-fits (statement.Limit name how what) = tt
-command-fits (statement.Aggregate name map) = tt
-command-fits (statement.Allocate source basis target map) = tt
-command-fits (statement.Call program arguments) = tt
+command-fits : (s : Statement) (objects : List ℕ) → MayAssign (command_of s objects)
+command-fits (statement.Attach mode) objects = tt
+command-fits statement.Detach objects = tt
+command-fits statement.Commit objects = tt
+command-fits (statement.Acquire keep fresh same) objects = tt
+command-fits (statement.Resync names) objects = tt
+command-fits (statement.Release names) objects = tt
+command-fits (statement.Revert names) objects = tt
+command-fits (statement.Update names) objects = tt
+command-fits (statement.Add dimension values place) objects = tt
+command-fits (statement.Delete dimension values) objects = tt
+command-fits (statement.Move dimension values place) objects = tt
+command-fits (statement.Rename dimension was text) objects = tt
+command-fits (statement.Assign target e) objects = assignment-fits (name_alone target) (integer_in e) (level-fits (out-Expr e))
+command-fits (statement.Show e) objects = show-fits (name_in e)
+command-fits (statement.Report e) objects = tt
+command-fits (statement.Limit name how what) objects = tt
+command-fits (statement.Aggregate name map) objects = tt
+command-fits (statement.Allocate source basis target map) objects = tt
+command-fits (statement.Call program arguments) objects = tt
 
 -- ---- a line
 
@@ -116,13 +97,13 @@ runs-fits : (own : Option Command) → MayAssign own → AskedInteger (runs own)
 runs-fits None fits = tt
 runs-fits (Some own) fits = fits
 
-unless-fits : (refusal : Option Refusal) (s : Statement) → AskedInteger (asked_unless refusal s)
-unless-fits None s = runs-fits (command_of s) (command-fits s)
-unless-fits (Some refusal) s = tt
+unless-fits : (definitions : List Def) (refusal : Option Refusal) (s : Statement) → AskedInteger (asked_unless definitions refusal s)
+unless-fits definitions None s = runs-fits (command_of s (objects_named definitions s)) (command-fits s (objects_named definitions s))
+unless-fits definitions (Some refusal) s = tt
 
 pub asked-fits : (definitions : List Def) (s : Session) (line : List ℕ) (from : ℕ) → AskedInteger (asked definitions s line from)
 asked-fits definitions s line from = by (statement_in line from)
   where
     by : (read : Result Statement ParseFault) → AskedInteger (asked_by definitions s read)
     by (Err fault) = tt
-    by (Ok one) = unless-fits (statement_refusal definitions s one) one
+    by (Ok one) = unless-fits definitions (statement_refusal definitions s one) one

@@ -1,13 +1,15 @@
--- What a command of a session begins with: a refusal of the session's own, an entry, `ok`, or a cell.
-use Rattle.std.specs.Prelude.{◌≡◌, ◌⊎◌, ℕ, ℤ, Bool, true, false, cond, List, [], ◌∷◌, Option, None, Some, Result, Ok, Err, refl}
-use Rattle.std.proofs.Common.{◌∙◌, ap, subst, inl, inr}
+-- What a command of a session begins with: a refusal of the session's own, an entry, `ok` with what it makes of the view, or a cell.
+use Rattle.std.specs.Prelude.{◌≡◌, ◌⊎◌, ℕ, ℤ, Bool, true, false, cond, map, List, [], ◌∷◌, Option, None, Some, Result, Ok, Err, refl}
+use Rattle.std.proofs.Common.{◌∙◌, ap, sym, subst, inl, inr}
 use Rattle.aw_cell.specs.declared.cell.Cell.TheVariants.{Int}
 use Rattle.aw_schema.specs.declared.definition.Def.{Def}
 use Rattle.aw_schema.specs.Definitions as definition
 use Rattle.aw_body.specs.declared.change.Change.{Change}
+use Rattle.aw_body.specs.declared.change.Seen.{Seen}
 use Rattle.mv_core.specs.declared.entry.Entry.{Entry}
 use Rattle.mv_core.specs.declared.entry.Entry.TheVariants as entry
 use Rattle.mv_view.specs.Rules as rule
+use Rattle.mv_view.specs.Laws.{unstaged_in}
 use Rattle.mv_view.specs.ViewState.{ObjectView, ViewState, object_of, owned_objects}
 use Rattle.ses_report.specs.declared.refusal.Refusal.{Refusal}
 use Rattle.ses_report.specs.Refusals.{no_form, not_attached, already_attached}
@@ -17,17 +19,13 @@ use Rattle.ses_step.specs.declared.command.Command.TheVariants as command
 use Rattle.ses_step.specs.declared.session.Begun.{Begun}
 use Rattle.ses_step.specs.declared.session.Begun.TheVariants.{Said, Ask}
 use Rattle.ses_step.specs.declared.session.Known.{Known as Session}
-use Rattle.ses_step.specs.Sessions.{begun, located, located_cell, number_in, generation_in, is_single_at, cell_in, with_cell, commit_asked}
+use Rattle.ses_step.specs.Sessions.{begun, sharing, located, located_cell, number_in, generation_in, is_single_at, cell_in, with_cell, seen_objects, or_all, leaving, commit_asked, release_asked}
 
 -- a refusal that needs no reply
 abbrev pub IsOwn : Refusal → Type 0
 IsOwn refusal = (refusal ≡ no_form) ⊎ ((refusal ≡ not_attached) ⊎ (refusal ≡ already_attached))
 
 -- ---- what a session asks
-
-pub record AsksAttach (s : Session) (asked : Entry) : Type 0 where
-  pub unattached : s.view ≡ None
-  pub is : asked ≡ entry.Attach s.who
 
 -- an object that an attached session sees
 pub record Sees (s : Session) (object : ℕ) : Type 0 where
@@ -36,25 +34,40 @@ pub record Sees (s : Session) (object : ℕ) : Type 0 where
   pub attached : s.view ≡ Some view
   pub seen : object_of view object ≡ Some found
 
--- the generation of one object that the session has
-abbrev pub acquiring : ℕ → ℕ → ℕ → Entry
-acquiring who object number = entry.Acquire who ((record { object = object; number = number }) ∷ []) [] []
+-- the generations that a session has of these objects
+abbrev pub generations_in : Session → List ℕ → List Seen
+generations_in s objects = map (generation_in s) objects
 
-pub record AsksAcquire (s : Session) (asked : Entry) : Type 0 where
-  pub object : ℕ
-  pub sees : Sees s object
-  pub is : asked ≡ acquiring s.who object sees.found.number
-
-pub record AsksCommit (s : Session) (asked : Entry) : Type 0 where
+-- an attached session asks this, which depends on its view
+pub record AsksBy (s : Session) (entry_of : ViewState → Entry) (asked : Entry) : Type 0 where
   pub view : ViewState
-  pub change : Change
-  pub changes : List Change
   pub attached : s.view ≡ Some view
-  pub made : rule.changes view ≡ change ∷ changes
-  pub is : asked ≡ entry.Commit s.who (change ∷ changes) []
+  pub is : asked ≡ entry_of view
 
-abbrev pub AskedOf : Session → Entry → Type 0
-AskedOf s asked = AsksAttach s asked ⊎ (AsksAcquire s asked ⊎ AsksCommit s asked)
+pub record AsksRelease (s : Session) (objects : List ℕ) (asked : Entry) : Type 0 where
+  pub view : ViewState
+  pub object : ℕ
+  pub unstaged : List ℕ
+  pub attached : s.view ≡ Some view
+  pub left : unstaged_in view objects ≡ object ∷ unstaged
+  pub is : asked ≡ entry.Release s.who (object ∷ unstaged)
+
+pub record AsksAttach (s : Session) (asked : Entry) : Type 0 where
+  pub unattached : s.view ≡ None
+  pub is : asked ≡ entry.Attach s.who
+
+-- what a session asks by a command
+abbrev pub AskedOf : Session → Command → Entry → Type 0
+AskedOf s (command.Attach mode) asked = AsksAttach s asked
+AskedOf s command.Detach asked = AsksBy s (λ view. entry.Detach s.who) asked
+AskedOf s (command.Acquire keep fresh same) asked = AsksBy s (λ view. entry.Acquire s.who (generations_in s keep) fresh (generations_in s same)) asked
+AskedOf s (command.Resync objects) asked = AsksBy s (λ view. entry.Resync s.who objects) asked
+AskedOf s (command.Release objects) asked = AsksRelease s objects asked
+AskedOf s command.Commit asked = AsksBy s (λ view. entry.Commit s.who (rule.changes view) (leaving view)) asked
+AskedOf s (command.Revert objects) asked = ⊥
+AskedOf s (command.Update objects) asked = ⊥
+AskedOf s (command.Assign name value) asked = ⊥
+AskedOf s (command.Show name) asked = ⊥
 
 -- ---- the object that a command names
 
@@ -114,16 +127,6 @@ number-seen s object it =
 -- ---- the command
 
 module _ (definitions : List Def) (s : Session) where
-  begins_acquire : (P : Begun × Session → Type 0) (name : List ℕ) → ((refusal : Refusal) → IsOwn refusal → P (Said (Refused refusal), s)) → ((asked : Entry) → AskedOf s asked → P (Ask asked, s)) → P (begun definitions s (command.Acquire name))
-  begins_acquire P name refused asks =
-      located-cases (λ r. P (elim r [ Err refusal ↦ (Said (Refused refusal), s) | Ok object ↦ (Ask (entry.Acquire s.who (generation_in s object ∷ []) [] []), s) ])) definitions s name refused
-      (λ object place it. asks (entry.Acquire s.who (generation_in s object ∷ []) [] []) (inr (inl (record { object = object; sees = it; is = ap (acquiring s.who object) (number-seen s object it) }))))
-
-  commits : (P : Begun × Session → Type 0) (view : ViewState) → s.view ≡ Some view → P (Said Done, s) → ((asked : Entry) → AskedOf s asked → P (Ask asked, s)) → (changes : List Change) → rule.changes view ≡ changes → P (commit_asked s changes)
-  commits P view attached nothing asks [] made = nothing
-  commits P view attached nothing asks (change ∷ changes) made =
-      asks (entry.Commit s.who (change ∷ changes) []) (inr (inr (record { view = view; change = change; changes = changes; attached = attached; made = made; is = refl })))
-
   -- an assignment to an INTEGER variable without dimensions that the session sees
   pub record Assigns (own : Command) (name : List ℕ) (value : ℤ) (object : ℕ) : Type 0 where
     pub is : own ≡ command.Assign name value
@@ -138,42 +141,76 @@ module _ (definitions : List Def) (s : Session) where
     pub single : is_single_at definitions object ≡ true
     pub sees : Sees s object
 
-  pub begins : (own : Command) (P : Begun × Session → Type 0) →
-      ((refusal : Refusal) → IsOwn refusal → P (Said (Refused refusal), s)) →
-      ((asked : Entry) → AskedOf s asked → P (Ask asked, s)) →
-      P (Said Done, s) →
-      ((name : List ℕ) (value : ℤ) (object : ℕ) → Assigns own name value object → P (Said Done, with_cell s object (Int value))) →
-      ((view : ViewState) → own ≡ command.Update → s.view ≡ Some view → P (Said Done, record s { view = Some (rule.updated view (owned_objects view)) })) →
-      ((name : List ℕ) (object : ℕ) → Shows own name object → P (Said (Shown (cell_in s object)), s)) →
-      P (begun definitions s own)
-  begins command.Attach P refused asks nothing assigned moved shown = by_view s.view refl
+  -- what is to be shown of each kind of beginning
+  pub record Begins (own : Command) (P : Begun × Session → Type 0) : Type 0 where
+    pub refused : (refusal : Refusal) → IsOwn refusal → P (Said (Refused refusal), s)
+    pub asks : (asked : Entry) → AskedOf s own asked → P (Ask asked, s)
+    -- a COMMIT of nothing
+    pub nothing : (view : ViewState) → own ≡ command.Commit → s.view ≡ Some view → rule.changes view ≡ [] → leaving view ≡ [] → P (Said Done, s)
+    pub assigned : (name : List ℕ) (value : ℤ) (object : ℕ) → Assigns own name value object → P (Said Done, with_cell s object (Int value))
+    pub shown : (name : List ℕ) (object : ℕ) → Shows own name object → P (Said (Shown (cell_in s object)), s)
+    -- a RELEASE of objects of which something is staged
+    pub released : (view : ViewState) (objects : List ℕ) → own ≡ command.Release objects → s.view ≡ Some view → unstaged_in view objects ≡ [] → P (Said Done, record s { view = Some (rule.released view objects) })
+    pub reverted : (view : ViewState) (objects : List ℕ) → own ≡ command.Revert objects → s.view ≡ Some view → P (Said Done, record s { view = Some (rule.reverted view (or_all (seen_objects view) objects)) })
+    pub updated : (view : ViewState) (objects : List ℕ) → own ≡ command.Update objects → s.view ≡ Some view → P (Said Done, record s { view = Some (rule.updated view (or_all (owned_objects view) objects)) })
+
+  commits : (P : Begun × Session → Type 0) (view : ViewState) → s.view ≡ Some view → Begins command.Commit P → (changes : List Change) (leave : List ℕ) → rule.changes view ≡ changes → leaving view ≡ leave → P (commit_asked s changes leave)
+  commits P view attached each [] [] made left = each.nothing view refl attached made left
+  commits P view attached each [] (object ∷ leave) made left =
+      each.asks (entry.Commit s.who [] (object ∷ leave)) (record { view = view; attached = attached; is = ap (λ those. entry.Commit s.who those (object ∷ leave)) (sym made) ∙ ap (entry.Commit s.who (rule.changes view)) (sym left) })
+  commits P view attached each (change ∷ changes) leave made left =
+      each.asks (entry.Commit s.who (change ∷ changes) leave) (record { view = view; attached = attached; is = ap (λ those. entry.Commit s.who those leave) (sym made) ∙ ap (entry.Commit s.who (rule.changes view)) (sym left) })
+
+  releases : (P : Begun × Session → Type 0) (view : ViewState) (objects : List ℕ) → s.view ≡ Some view → Begins (command.Release objects) P → (unstaged : List ℕ) → unstaged_in view objects ≡ unstaged → P (release_asked s view objects unstaged)
+  releases P view objects attached each [] left = each.released view objects refl attached left
+  releases P view objects attached each (object ∷ unstaged) left =
+      each.asks (entry.Release s.who (object ∷ unstaged)) (record { view = view; object = object; unstaged = unstaged; attached = attached; left = left; is = refl })
+
+  -- one that wants an attached session
+  if_attached : (P : Begun × Session → Type 0) (own : Command) → ((refusal : Refusal) → IsOwn refusal → P (Said (Refused refusal), s)) → ((view : ViewState) → s.view ≡ Some view → P (sharing s view own)) → (view : Option ViewState) → s.view ≡ view → P (elim view [ None ↦ (Said (Refused not_attached), s) | Some view ↦ sharing s view own ])
+  if_attached P own refused shares None none = refused not_attached (inr (inl refl))
+  if_attached P own refused shares (Some view) attached = shares view attached
+
+  pub begins : (own : Command) (P : Begun × Session → Type 0) → Begins own P → P (begun definitions s own)
+  begins (command.Attach mode) P each = by_view s.view refl
     where
       by_view : (view : Option ViewState) → s.view ≡ view → P (elim view [ None ↦ (Ask (entry.Attach s.who), s) | Some view ↦ (Said (Refused already_attached), s) ])
-      by_view None none = asks (entry.Attach s.who) (inl (record { unattached = none; is = refl }))
-      by_view (Some view) attached = refused already_attached (inr (inr refl))
-  begins (command.Acquire name) P refused asks nothing assigned moved shown = begins_acquire P name refused asks
-  begins (command.Assign name value) P refused asks nothing assigned moved shown =
-      located_cell-cases (λ r. P (elim r [ Err refusal ↦ (Said (Refused refusal), s) | Ok object ↦ (Said Done, with_cell s object (Int value)) ])) definitions s name refused
-      (λ object place single it. assigned name value object (record { is = refl; place = place; single = single; sees = it }))
-  begins command.Update P refused asks nothing assigned moved shown = by_view s.view refl
-    where
-      by_view : (view : Option ViewState) → s.view ≡ view → P (elim view [ None ↦ (Said (Refused not_attached), s) | Some view ↦ (Said Done, record s { view = Some (rule.updated view (owned_objects view)) }) ])
-      by_view None none = refused not_attached (inr (inl refl))
-      by_view (Some view) attached = moved view refl attached
-  begins command.Commit P refused asks nothing assigned moved shown = by_view s.view refl
-    where
-      by_view : (view : Option ViewState) → s.view ≡ view → P (elim view [ None ↦ (Said (Refused not_attached), s) | Some view ↦ commit_asked s (rule.changes view) ])
-      by_view None none = refused not_attached (inr (inl refl))
-      by_view (Some view) attached = commits P view attached nothing asks (rule.changes view) refl
-  begins (command.Show name) P refused asks nothing assigned moved shown =
-      located_cell-cases (λ r. P (elim r [ Err refusal ↦ (Said (Refused refusal), s) | Ok object ↦ (Said (Shown (cell_in s object)), s) ])) definitions s name refused
-      (λ object place single it. shown name object (record { is = refl; place = place; single = single; sees = it }))
+      by_view None none = each.asks (entry.Attach s.who) (record { unattached = none; is = refl })
+      by_view (Some view) attached = each.refused already_attached (inr (inr refl))
+  begins (command.Assign name value) P each =
+      located_cell-cases (λ r. P (elim r [ Err refusal ↦ (Said (Refused refusal), s) | Ok object ↦ (Said Done, with_cell s object (Int value)) ])) definitions s name each.refused
+      (λ object place single it. each.assigned name value object (record { is = refl; place = place; single = single; sees = it }))
+  begins (command.Show name) P each =
+      located_cell-cases (λ r. P (elim r [ Err refusal ↦ (Said (Refused refusal), s) | Ok object ↦ (Said (Shown (cell_in s object)), s) ])) definitions s name each.refused
+      (λ object place single it. each.shown name object (record { is = refl; place = place; single = single; sees = it }))
+  begins command.Detach P each = if_attached P command.Detach each.refused (λ view attached. each.asks (entry.Detach s.who) (record { view = view; attached = attached; is = refl })) s.view refl
+  begins (command.Acquire keep fresh same) P each =
+      if_attached P (command.Acquire keep fresh same) each.refused (λ view attached. each.asks (entry.Acquire s.who (generations_in s keep) fresh (generations_in s same)) (record { view = view; attached = attached; is = refl })) s.view refl
+  begins (command.Resync objects) P each =
+      if_attached P (command.Resync objects) each.refused (λ view attached. each.asks (entry.Resync s.who objects) (record { view = view; attached = attached; is = refl })) s.view refl
+  begins (command.Release objects) P each = if_attached P (command.Release objects) each.refused (λ view attached. releases P view objects attached each (unstaged_in view objects) refl) s.view refl
+  begins (command.Revert objects) P each = if_attached P (command.Revert objects) each.refused (λ view attached. each.reverted view objects refl attached) s.view refl
+  begins (command.Update objects) P each = if_attached P (command.Update objects) each.refused (λ view attached. each.updated view objects refl attached) s.view refl
+  begins command.Commit P each = if_attached P command.Commit each.refused (λ view attached. commits P view attached each (rule.changes view) (leaving view) refl refl) s.view refl
 
--- a session that asks is as it was
-pub asked_by : (definitions : List Def) (s : Session) (own : Command) (asked : Entry) → (begun definitions s own).0 ≡ Ask asked → ((begun definitions s own).1 ≡ s) × AskedOf s asked
-asked_by definitions s own =
-    begins definitions s own (λ b. (asked : Entry) → b.0 ≡ Ask asked → (b.1 ≡ s) × AskedOf s asked)
-    (λ refusal is asked never. cc) (λ it known asked is. (refl, subst (AskedOf s) (same-asked it asked is) known)) (λ asked never. cc) (λ name value object it asked never. cc) (λ view is attached asked never. cc) (λ name object it asked never. cc)
-  where
-    same-asked : (one other : Entry) → Ask one ≡ Ask other → one ≡ other
-    same-asked one other is = cc
+  -- a session that asks is as it was
+  pub asked_by : (own : Command) (asked : Entry) → (begun definitions s own).0 ≡ Ask asked → ((begun definitions s own).1 ≡ s) × AskedOf s own asked
+  asked_by own =
+      begins own (λ b. (asked : Entry) → b.0 ≡ Ask asked → (b.1 ≡ s) × AskedOf s own asked) (record {
+        refused = λ refusal is asked never. cc;
+        asks = λ it known asked is. (refl, subst (AskedOf s own) (same-asked it asked is) known);
+        nothing = λ view is attached none left asked never. cc;
+        assigned = λ name value object it asked never. cc;
+        shown = λ name object it asked never. cc;
+        released = λ view objects is attached none asked never. cc;
+        reverted = λ view objects is attached asked never. cc;
+        updated = λ view objects is attached asked never. cc;
+      })
+    where
+      same-asked : (one other : Entry) → Ask one ≡ Ask other → one ≡ other
+      same-asked one other is = cc
+
+-- a command of an attached session that asks for nothing by name
+pub begun-shared : (definitions : List Def) (s : Session) (own : Command) (view : ViewState) → s.view ≡ Some view → (begun definitions s own ≡ elim s.view [ None ↦ (Said (Refused not_attached), s) | Some one ↦ sharing s one own ]) → begun definitions s own ≡ sharing s view own
+begun-shared definitions s own view attached is =
+    is ∙ ap (λ (seen : Option ViewState). elim seen as (λ _. Begun × Session) [ None ↦ (Said (Refused not_attached), s) | Some one ↦ sharing s one own ]) attached

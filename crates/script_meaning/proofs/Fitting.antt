@@ -27,6 +27,7 @@ use Rattle.mv_view.specs.Rules as rule
 use Rattle.mv_view.specs.ViewState.{ObjectView, ViewState, IsSeen, object_of, each, kept_kinds}
 use Rattle.mv_view.specs.Fit as seen
 use Rattle.mv_view.proofs.callers.Each.{object_in-each}
+use Rattle.aw_body.specs.declared.change.Fresh.{Fresh}
 use Rattle.aw_body.specs.KeptBodies.{bodies_of}
 use Rattle.mv_core.specs.Workspace.{Workspace}
 use Rattle.ses_step.specs.Sessions.{is_single, is_single_at}
@@ -114,26 +115,54 @@ good-seen kind number body it =
     let recorded = recorded-over kind body body it.form.form it.form.form it.written (λ dimension. refl) in
     record {
       forms = record { base = it.form; staged = it.form; private = it.form };
-      commits = record { base = it.written; staged = (it.written, recorded); private = (it.written, recorded); staying = refl };
+      commits = record { base = it.written; staged = (it.written, recorded); private = (it.written, recorded) };
     }
 
 pub good-staging : (found : ObjectView) → IsGood found → IsGood (rule.staging found)
 good-staging found it = record {
   forms = record { base = it.forms.base; staged = it.forms.private; private = it.forms.private };
-  commits = record { base = it.commits.base; staged = it.commits.private; private = it.commits.private; staying = it.commits.staying };
+  commits = record { base = it.commits.base; staged = it.commits.private; private = it.commits.private };
 }
 
 pub good-owning : (found : ObjectView) → IsGood found → IsGood (rule.owning found)
 good-owning found it = record {
   forms = record { base = it.forms.base; staged = it.forms.staged; private = it.forms.private };
-  commits = record { base = it.commits.base; staged = it.commits.staged; private = it.commits.private; staying = refl };
+  commits = record { base = it.commits.base; staged = it.commits.staged; private = it.commits.private };
+}
+
+-- a generation that replaces all three bodies
+pub good-renewed : (found : ObjectView) (one : Fresh) → IsKeptOf found.kind one.body → IsGood (rule.with_latest one found)
+good-renewed found one it =
+    let recorded = recorded-over found.kind one.body one.body it.form.form it.form.form it.written (λ dimension. refl) in
+    record {
+      forms = record { base = it.form; staged = it.form; private = it.form };
+      commits = record { base = it.written; staged = (it.written, recorded); private = (it.written, recorded) };
+    }
+
+pub good-reverting : (found : ObjectView) → IsGood found → IsGood (rule.reverting found)
+good-reverting found it = record {
+  forms = record { base = it.forms.base; staged = it.forms.staged; private = it.forms.staged };
+  commits = record { base = it.commits.base; staged = it.commits.staged; private = it.commits.staged };
+}
+
+good-marked : (found : ObjectView) → IsGood found → IsGood (record found { leaving = true })
+good-marked found it = record {
+  forms = record { base = it.forms.base; staged = it.forms.staged; private = it.forms.private };
+  commits = record { base = it.commits.base; staged = it.commits.staged; private = it.commits.private };
 }
 
 good-giving_up : (found : ObjectView) → IsGood found → IsGood (rule.giving_up found)
 good-giving_up found it = record {
   forms = record { base = it.forms.base; staged = it.forms.staged; private = it.forms.private };
-  commits = record { base = it.commits.base; staged = it.commits.staged; private = it.commits.private; staying = refl };
+  commits = record { base = it.commits.base; staged = it.commits.staged; private = it.commits.private };
 }
+
+pub good-releasing : (found : ObjectView) → IsGood found → IsGood (rule.releasing found)
+good-releasing found it = good-either (rule.is_staged found) (good-marked found it) (good-giving_up found it)
+  where
+    good-either : (b : Bool) → IsGood (record found { leaving = true }) → IsGood (rule.giving_up found) → IsGood (cond b (record found { leaving = true }) (rule.giving_up found))
+    good-either true marked given = marked
+    good-either false marked given = given
 
 -- the staged body is the base
 abbrev moved_on : ObjectView → ObjectView
@@ -146,7 +175,6 @@ good-moved_on found dimension it = record {
     base = it.commits.staged.0;
     staged = (it.commits.staged.0, recorded-over found.kind found.staged found.staged it.forms.staged.form it.forms.staged.form it.commits.staged.0 (λ same. refl));
     private = (it.commits.private.0, recorded-over found.kind found.staged found.private it.forms.staged.form it.forms.private.form it.commits.private.0 dimension);
-    staying = it.commits.staying;
   };
 }
 
@@ -178,7 +206,6 @@ good-written found value single spelled it =
         base = it.commits.base;
         staged = it.commits.staged;
         private = (new.written, recorded-over found.kind found.base (applied found.private (CellPatch (one_cell value))) it.forms.base.form new.form.form new.written (λ dimension. other (sym single ∙ dimension)));
-        staying = it.commits.staying;
       };
     }
   where

@@ -1,10 +1,10 @@
 -- The view of a session fits after each of its commands, after what follows a reply, and after what another session did.
-use Rattle.std.specs.Prelude.{◌≡◌, ◌≢◌, ◌≤◌, ◌==◌, ◌+◌, ◌||◌, ◌↔◌, ℕ, zero, suc, ℤ, Bool, true, false, not, cond, List, [], ◌∷◌, Option, Some, None, IfSome, if◌then◌else◌, refl}
+use Rattle.std.specs.Prelude.{◌≡◌, ◌≢◌, ◌==◌, ◌+◌, ◌&&◌, ◌++◌, ◌↔◌, ℕ, zero, suc, ℤ, Bool, true, false, not, cond, filter, List, [], ◌∷◌, Option, Some, None, IfSome, if◌then◌else◌, refl}
 use Rattle.std.specs.Option.{option_map, IsSomeAnd}
-use Rattle.std.proofs.Common.{◌∙◌, ap, ap₂, sym, subst, arith}
-use Rattle.std.proofs.lemmas.Bool.{eqb-true}
+use Rattle.std.proofs.Common.{◌∙◌, ap, ap₂, sym, subst, ne_eqb, arith}
+use Rattle.std.proofs.lemmas.Bool.{eqb-true, eq-eqb}
 use Rattle.std.proofs.lemmas.Option.{none-some, same_Some}
-use Rattle.std.proofs.Math.Bool.{and-false}
+use Rattle.std.proofs.Math.Bool.{and-false, and-true}
 use Rattle.aw_cell.specs.declared.cell.Cell.TheVariants.{Int}
 use Rattle.aw_cell.specs.declared.cell.Kind.TheVariants as cells
 use Rattle.aw_schema.specs.declared.definition.Def.{Def}
@@ -16,24 +16,24 @@ use Rattle.aw_body.specs.declared.change.Change.{Change}
 use Rattle.aw_body.specs.declared.change.Fresh.{Fresh}
 use Rattle.aw_body.specs.Generations.{Bodies, change_of, latest_number, latest_body}
 use Rattle.aw_body.specs.KeptBodies.{bodies_of, first_of}
-use Rattle.aw_body.specs.Owners.{Owners, owner_of, is_own, taken, given_up}
-use Rattle.aw_body.specs.OwnerLaws.{owner_of-taken, owner_of-given_up}
+use Rattle.aw_body.specs.Owners.{Owners, owner_of, is_own, taken, given_up, all_given_up}
+use Rattle.aw_body.specs.OwnerLaws.{owner_of-taken, owner_of-given_up, owner_of-all_given_up}
 use Rattle.aw_codec.specs.Records.{IsSpelled}
 use Rattle.mv_core.specs.Lookups.{latest_from}
 use Rattle.mv_core.specs.Workspace.{Workspace, object_of as object_kept, standing_from, standing}
-use Rattle.mv_view.specs.Each.{object_in, only, listed, names, numbers_from}
+use Rattle.mv_view.specs.Each.{object_in, only, listed, names, passes, numbers_from}
 use Rattle.mv_view.specs.Fit as seen
-use Rattle.mv_view.specs.Laws.{AreLatest, MayBeKept, CanRise, grown, leaving_objects}
+use Rattle.mv_view.specs.Laws.{AreLatest, MayBeKept, CanRise, grown, leaving_objects, unstaged_in}
 use Rattle.mv_view.specs.Rules as rule
-use Rattle.mv_view.specs.ViewState.{ObjectView, ViewState, object_of, owned_objects, AreCellsOf, kinds_of, kept_kinds}
-use Rattle.mv_view.proofs.callers.Fitting.{own-calls, acquiring, latest-found}
-use Rattle.mv_view.proofs.callers.Committing.{attaching, committing, others-fit}
-use Rattle.mv_view.proofs.callers.OwnedObjects.{owned-listed}
+use Rattle.mv_view.specs.ViewState.{ObjectView, ViewState, object_of, is_owned, AreOwned, AreCellsOf, kinds_of, kept_kinds}
+use Rattle.mv_view.proofs.callers.Fitting.{kind-cond, own-calls, acquiring, resyncing, latest-found}
+use Rattle.mv_view.proofs.callers.Committing.{attaching, committing, releasing, others-fit}
+use Rattle.ses_step.specs.Sessions.{is_leaving, leaving}
 use Rattle.script_meaning.specs.Fit.{IsKeptOf, ViewFits}
 use Rattle.script_meaning.proofs.Differences.{gives_newer}
 use Rattle.script_meaning.proofs.KeptKinds.{if-some, each-some, seen-kept}
 use Rattle.script_meaning.proofs.StoredBodies.{KeptBodies}
-use Rattle.script_meaning.proofs.Fitting.{IsGood, good-if, good-seen, good-written, good-staging, good-owning, good-committed, one_cell, view-fits, view-changed, goods}
+use Rattle.script_meaning.proofs.Fitting.{IsGood, good-if, good-seen, good-renewed, good-written, good-staging, good-reverting, good-owning, good-releasing, good-committed, one_cell, view-fits, view-changed, goods}
 
 -- ---- an assignment, UPDATE
 
@@ -45,41 +45,96 @@ view-written w who view object found value it there single spelled =
     let here : found ≡ one = same_Some found one (sym there ∙ ap (object_of view) (eqb-true object at same) ∙ is) in
     good-written one value (sym (ap (λ (o : ObjectView). o.kind) here) ∙ single) spelled good) good)
 
-pub view-updated : (w : Workspace) (who : ℕ) (view : ViewState) → ViewFits w who view → ViewFits w who (rule.updated view (owned_objects view))
-view-updated w who view it =
-    view-changed w w who view (listed (owned_objects view) rule.staging) it
-    ((own-calls w.definitions (bodies_of w.definitions) w.history w.owners view it.fits).updated (owned_objects view) (owned-listed view))
-    (λ at one is good. good-if (names (owned_objects view) at) (rule.staging one) one (λ named. good-staging one good) good)
+pub view-updated : (w : Workspace) (who : ℕ) (view : ViewState) (objects : List ℕ) → ViewFits w who view → AreOwned view objects → ViewFits w who (rule.updated view objects)
+view-updated w who view objects it owned =
+    view-changed w w who view (listed objects rule.staging) it
+    ((own-calls w.definitions (bodies_of w.definitions) w.history w.owners view it.fits).updated objects owned)
+    (λ at one is good. good-if (names objects at) (rule.staging one) one (λ named. good-staging one good) good)
 
--- ---- ACQUIRE
+pub view-reverted : (w : Workspace) (who : ℕ) (view : ViewState) (objects : List ℕ) → ViewFits w who view → ViewFits w who (rule.reverted view objects)
+view-reverted w who view objects it =
+    view-changed w w who view (listed objects rule.reverting) it
+    ((own-calls w.definitions (bodies_of w.definitions) w.history w.owners view it.fits).reverted objects)
+    (λ at one is good. good-if (names objects at) (rule.reverting one) one (λ named. good-reverting one good) good)
 
--- of an object that nobody owned or the session itself
-pub view-acquired : (w : Workspace) (who : ℕ) (view : ViewState) (object : ℕ) (found : ObjectView) → ViewFits w who view → object_of view object ≡ Some found → (found.owned ≡ false → latest_number (bodies_of w.definitions) w.history object ≤ found.number) → ViewFits (record w { owners = taken w.owners who (object ∷ []) }) who (rule.acquired view (object ∷ []) [])
-view-acquired w who view object found it there latest =
+-- ---- ACQUIRE, RESYNC
+
+module _ (w : Workspace) (who : ℕ) (view : ViewState) (it : ViewFits w who view) (kept : KeptBodies w.definitions w.history) (fresh : List Fresh) (latest : AreLatest (bodies_of w.definitions) w.history fresh) where
+  -- what is handed over replaces all three bodies of an object
+  good-latest : (at : ℕ) (found changed : ObjectView) → object_of view at ≡ Some found → changed.kind ≡ found.kind → IsGood changed → (one : Option Fresh) → rule.latest_of fresh at ≡ one → IsGood (rule.renewed one changed)
+  good-latest at found changed there same good None none = good
+  good-latest at found changed there same good (Some one) given =
+      let bodies = bodies_of w.definitions in
+      let kind = seen-kept w.definitions view at found it.fits.kinds there in
+      let its : IsKeptOf found.kind (latest_body bodies w.history at) = if-some (λ kind. IsKeptOf kind (latest_body bodies w.history at)) (object_in (kept_kinds w.definitions) at) found.kind kind (kept at) in
+      let body = (latest-found bodies w.history fresh at one latest given).1 in
+      good-renewed changed one (subst (λ (kind : DefKind). IsKeptOf kind one.body) (sym same) (subst (IsKeptOf found.kind) (sym body) its))
+
+  -- of objects that nobody owned or the session itself
+  pub view-acquired : (keep : List ℕ) → MayBeKept (bodies_of w.definitions) w.history view keep → ViewFits (record w { owners = taken w.owners who (keep ++ rule.objects_of fresh) }) who (rule.acquired view keep fresh)
+  view-acquired keep may =
+      let bodies = bodies_of w.definitions in
+      let fit = acquiring bodies w.history w.definitions w.owners view keep fresh it.fits may latest in
+      view-changed w (record w { owners = taken w.owners who (keep ++ rule.objects_of fresh) }) who view (λ at one. rule.renewed (rule.latest_of fresh at) (listed (rule.objects_of fresh) rule.owning at (listed keep rule.owning at one))) it
+      (subst (λ (by : ℕ). seen.Fits w.definitions bodies w.history (taken w.owners by (keep ++ rule.objects_of fresh)) (rule.acquired view keep fresh)) it.number fit)
+      (λ at one is good.
+      let kept_one = listed keep rule.owning at one in
+      let owned = listed (rule.objects_of fresh) rule.owning at kept_one in
+      let first : IsGood kept_one = good-if (names keep at) (rule.owning one) one (λ named. good-owning one good) good in
+      let second : IsGood owned = good-if (names (rule.objects_of fresh) at) (rule.owning kept_one) kept_one (λ named. good-owning kept_one first) first in
+      good-latest at one owned is (kind-cond (names (rule.objects_of fresh) at) (rule.owning kept_one) kept_one refl ∙ kind-cond (names keep at) (rule.owning one) one refl) second (rule.latest_of fresh at) refl)
+
+  pub view-resynced : ViewFits w who (rule.resynced view fresh)
+  view-resynced =
+      view-changed w w who view (λ at one. rule.renewed (rule.latest_of fresh at) one) it
+      (resyncing (bodies_of w.definitions) w.history w.definitions w.owners view fresh it.fits latest)
+      (λ at one is good. good-latest at one one is refl good (rule.latest_of fresh at) refl)
+
+-- ---- RELEASE
+
+-- the objects of which nothing is staged are given up
+pub view-released : (w : Workspace) (who : ℕ) (view : ViewState) (objects : List ℕ) → ViewFits w who view → AreOwned view objects → ViewFits (record w { owners = given_up w.owners who (unstaged_in view objects) }) who (rule.released view objects)
+view-released w who view objects it owned =
     let bodies = bodies_of w.definitions in
-    let may : MayBeKept bodies w.history view (object ∷ []) = (subst (λ (seen : Option ObjectView). IsSomeAnd seen (λ one. one.owned ≡ false → latest_number bodies w.history object ≤ one.number)) (sym there) latest, tt) in
-    let fit = acquiring bodies w.history w.definitions w.owners view (object ∷ []) [] it.fits may tt in
-    view-changed w (record w { owners = taken w.owners who (object ∷ []) }) who view (λ at one. rule.renewed (rule.latest_of [] at) (listed (rule.objects_of []) rule.owning at (listed (object ∷ []) rule.owning at one))) it
-    (subst (λ (by : ℕ). seen.Fits w.definitions bodies w.history (taken w.owners by (object ∷ [])) (rule.acquired view (object ∷ []) [])) it.number fit)
-    (λ at one is good. good-if ((object == at) || false) (rule.owning one) one (λ named. good-owning one good) good)
+    let fit = releasing gives_newer bodies w.definitions w.history w.owners view objects it.forms owned it.fits in
+    view-changed w (record w { owners = given_up w.owners who (unstaged_in view objects) }) who view (listed objects rule.releasing) it
+    (subst (λ (by : ℕ). seen.Fits w.definitions bodies w.history (given_up w.owners by (unstaged_in view objects)) (rule.released view objects)) it.number fit)
+    (λ at one is good. good-if (names objects at) (rule.releasing one) one (λ named. good-releasing one good) good)
 
 -- ---- COMMIT
 
-nothing-leaves : (objects : List (Option ObjectView)) (at : ℕ) → ((k : ℕ) → IfSome (object_in objects k) (λ one. one.leaving ≡ false)) → numbers_from (λ (one : ObjectView). one.leaving) at objects ≡ []
-nothing-leaves [] at none = refl
-nothing-leaves (None ∷ objects) at none = nothing-leaves objects (at + 1) (λ k. none (suc k))
-nothing-leaves (Some one ∷ objects) at none =
-    let rest = numbers_from (λ (one : ObjectView). one.leaving) (at + 1) objects in
-    ap (λ (b : Bool). cond b (at ∷ rest) rest) (none zero) ∙ nothing-leaves objects (at + 1) (λ k. none (suc k))
+-- of the owned objects those that pass the test are the leaving ones, since no other is leaving
+left-are : (test : ℕ → Bool) (at : ℕ) (objects : List (Option ObjectView)) → ((k object : ℕ) → at + k ≡ object → IfSome (object_in objects k) (λ one. (test object ≡ one.leaving) × (one.owned ≡ false → one.leaving ≡ false))) → filter test (numbers_from is_owned at objects) ≡ numbers_from (λ (one : ObjectView). one.leaving) at objects
+left-are test at [] each = refl
+left-are test at (None ∷ objects) each = left-are test (at + 1) objects (λ k object is. each (suc k) object (omega (arith, is)))
+left-are test at (Some one ∷ objects) each =
+    let here = each zero at (omega arith) in
+    by_owned one.owned refl here.1
+    ∙ ap (λ (b : Bool). cond b (at ∷ filter test (numbers_from is_owned (at + 1) objects)) (filter test (numbers_from is_owned (at + 1) objects))) here.0
+    ∙ ap (λ (rest : List ℕ). cond one.leaving (at ∷ rest) rest) (left-are test (at + 1) objects (λ k object is. each (suc k) object (omega (arith, is))))
+  where
+    rest : List ℕ
+    rest = numbers_from is_owned (at + 1) objects
 
-pub none-leaving : (w : Workspace) (who : ℕ) (view : ViewState) → ViewFits w who view → leaving_objects view ≡ []
-none-leaving w who view it = nothing-leaves view.objects 0 (λ k. each-some (λ (one : ObjectView). one.leaving ≡ false) (object_of view k) (λ one is. (if-some IsGood (object_of view k) one is (goods w who view it k)).commits.staying))
+    by_owned : (owned : Bool) → one.owned ≡ owned → (one.owned ≡ false → one.leaving ≡ false) → filter test (cond one.owned (at ∷ rest) rest) ≡ cond (test at) (at ∷ filter test rest) (filter test rest)
+    by_owned true is staying = ap (λ (b : Bool). filter test (cond b (at ∷ rest) rest)) is
+    by_owned false is staying =
+        ap (λ (b : Bool). filter test (cond b (at ∷ rest) rest)) is ∙ sym (ap (λ (b : Bool). cond b (at ∷ filter test rest) (filter test rest)) ((each zero at (omega arith)).0 ∙ staying is))
 
-pub view-committed : (w after : Workspace) (who : ℕ) (view : ViewState) → after.definitions ≡ w.definitions → after.history ≡ grown w.history (rule.changes view) → after.owners ≡ given_up w.owners who [] → ViewFits w who view → CanRise view → ViewFits after who (rule.committed view)
+pub leaving-are : (w : Workspace) (who : ℕ) (view : ViewState) → ViewFits w who view → leaving view ≡ leaving_objects view
+leaving-are w who view it =
+    left-are (λ object. passes is_leaving (object_of view object)) 0 view.objects (λ k object is.
+    each-some (λ (one : ObjectView). (passes is_leaving (object_of view object) ≡ one.leaving) × (one.owned ≡ false → one.leaving ≡ false)) (object_in view.objects k) (λ one there.
+    let same : k ≡ object = omega (arith, is) in (
+      sym (ap (λ (at : ℕ). passes is_leaving (object_of view at)) same) ∙ ap (passes is_leaving) there,
+      (if-some (seen.ObjectFits (bodies_of w.definitions) w.history w.owners view.who k) (object_of view k) one there (it.fits.each k)).staying,
+    )))
+
+pub view-committed : (w after : Workspace) (who : ℕ) (view : ViewState) → after.definitions ≡ w.definitions → after.history ≡ grown w.history (rule.changes view) → after.owners ≡ given_up w.owners who (leaving view) → ViewFits w who view → CanRise view → ViewFits after who (rule.committed view)
 view-committed w after who view same_definitions grows gives it rise =
     let bodies = bodies_of w.definitions in
     let fit = committing w.definitions (λ object. 1) (first_of w.definitions) gives_newer w.history w.owners view it.forms rise it.fits in
-    let with_owners = subst (λ (those : Owners). seen.Fits w.definitions bodies (grown w.history (rule.changes view)) those (rule.committed view)) (ap (λ (by : ℕ). given_up w.owners by (leaving_objects view)) it.number ∙ ap (given_up w.owners who) (none-leaving w who view it) ∙ sym gives) fit in
+    let with_owners = subst (λ (those : Owners). seen.Fits w.definitions bodies (grown w.history (rule.changes view)) those (rule.committed view)) (ap (λ (by : ℕ). given_up w.owners by (leaving_objects view)) it.number ∙ ap (given_up w.owners who) (sym (leaving-are w who view it)) ∙ sym gives) fit in
     let with_history = subst (λ (history : List (List Change)). seen.Fits w.definitions bodies history after.owners (rule.committed view)) (sym grows) with_owners in
     view-changed w after who view (λ at one. rule.after_commit one) it
     (subst (λ (definitions : List Def). seen.Fits definitions (bodies_of definitions) after.history after.owners (rule.committed view)) (sym same_definitions) with_history)
@@ -153,32 +208,67 @@ module _ (w : Workspace) where
 
 -- ---- what another session does
 
--- taking an object that isn't another session's leaves what that one owns
-pub taken-other : (owners : Owners) (who other object at : ℕ) → other ≢ who → owner_of owners object ≢ Some other → (owner_of (taken owners who (object ∷ [])) at ≡ Some other) ↔ (owner_of owners at ≡ Some other)
-taken-other owners who other object at differs foreign = by_test (object == at) refl
+-- taking objects of which none is another session's leaves what that one owns
+pub taken-other : (owners : Owners) (who other : ℕ) (objects : List ℕ) (at : ℕ) → other ≢ who → (names objects at ≡ true → owner_of owners at ≢ Some other) → (owner_of (taken owners who objects) at ≡ Some other) ↔ (owner_of owners at ≡ Some other)
+taken-other owners who other objects at differs foreign = by_test (names objects at) refl
   where
-    after : (test : Bool) → (object == at) ≡ test → owner_of (taken owners who (object ∷ [])) at ≡ cond test (Some who) (owner_of owners at)
-    after test is = owner_of-taken owners who (object ∷ []) at ∙ ap (λ (b : Bool). cond (b || false) (Some who) (owner_of owners at)) is ∙ plain test
-      where
-        plain : (b : Bool) → cond (b || false) (Some who) (owner_of owners at) ≡ cond b (Some who) (owner_of owners at)
-        plain true = refl
-        plain false = refl
+    after : (test : Bool) → names objects at ≡ test → owner_of (taken owners who objects) at ≡ cond test (Some who) (owner_of owners at)
+    after test is = owner_of-taken owners who objects at ∙ ap (λ (b : Bool). cond b (Some who) (owner_of owners at)) is
 
-    by_test : (test : Bool) → (object == at) ≡ test → (owner_of (taken owners who (object ∷ [])) at ≡ Some other) ↔ (owner_of owners at ≡ Some other)
+    by_test : (test : Bool) → names objects at ≡ test → (owner_of (taken owners who objects) at ≡ Some other) ↔ (owner_of owners at ≡ Some other)
     by_test true is = (
       (λ owned. absurd (differs (same_Some other who (sym owned ∙ after true is)))),
-      λ owned. absurd (foreign (ap (owner_of owners) (eqb-true object at is) ∙ owned)),
+      λ owned. absurd (foreign is owned),
     )
     by_test false is = ((λ owned. sym (after false is) ∙ owned), λ owned. after false is ∙ owned)
+
+-- giving up, of which another session's aren't
+left-other : (owners : Owners) (who other at : ℕ) (listed : Bool) (left : Option ℕ) → other ≢ who → left ≡ cond (not (is_own owners who at && listed)) (owner_of owners at) None → (left ≡ Some other) ↔ (owner_of owners at ≡ Some other)
+left-other owners who other at listed left differs is = ((λ gone. by_stays (not (is_own owners who at && listed)) (sym is ∙ gone)), λ owned. is ∙ ap (λ (own : Bool). cond (not (own && listed)) (owner_of owners at) None) (foreign owned) ∙ owned)
+  where
+    by_stays : (stays : Bool) → cond stays (owner_of owners at) None ≡ Some other → owner_of owners at ≡ Some other
+    by_stays true owned = owned
+    by_stays false owned = absurd (none-some other owned)
+
+    foreign : owner_of owners at ≡ Some other → is_own owners who at ≡ false
+    foreign owned = ap (λ (owner : Option ℕ). elim owner as (λ _. Bool) [ None ↦ false | Some one ↦ one == who ]) owned ∙ ne_eqb other who differs
+
+pub given-other : (owners : Owners) (who other : ℕ) (objects : List ℕ) (at : ℕ) → other ≢ who → (owner_of (given_up owners who objects) at ≡ Some other) ↔ (owner_of owners at ≡ Some other)
+given-other owners who other objects at differs =
+    left-other owners who other at (names objects at) (owner_of (given_up owners who objects) at) differs (owner_of-given_up owners who objects at)
+
+pub all-given-other : (owners : Owners) (who other at : ℕ) → other ≢ who → (owner_of (all_given_up owners who) at ≡ Some other) ↔ (owner_of owners at ≡ Some other)
+all-given-other owners who other at differs =
+    left-other owners who other at true (owner_of (all_given_up owners who) at) differs (owner_of-all_given_up owners who at ∙ ap (λ (b : Bool). cond (not b) (owner_of owners at) None) (sym (and-true (is_own owners who at))))
+
+-- who owns an object after some are given up owned it before
+pub left-owned : (stays : Bool) (owner : Option ℕ) (by : ℕ) → cond stays owner None ≡ Some by → owner ≡ Some by
+left-owned true owner by owned = owned
+left-owned false owner by owned = absurd (none-some by owned)
+
+pub given-owned : (owners : Owners) (who : ℕ) (objects : List ℕ) (at by : ℕ) → owner_of (given_up owners who objects) at ≡ Some by → owner_of owners at ≡ Some by
+given-owned owners who objects at by owned =
+    left-owned (not (is_own owners who at && names objects at)) (owner_of owners at) by (sym (owner_of-given_up owners who objects at) ∙ owned)
+
+pub all-given-owned : (owners : Owners) (who at by : ℕ) → owner_of (all_given_up owners who) at ≡ Some by → owner_of owners at ≡ Some by
+all-given-owned owners who at by owned =
+    left-owned (not (is_own owners who at)) (owner_of owners at) by (sym (owner_of-all_given_up owners who at) ∙ owned)
 
 -- nothing is given up
 pub owner_of-none_given : (owners : Owners) (who object : ℕ) → owner_of (given_up owners who []) object ≡ owner_of owners object
 owner_of-none_given owners who object =
     owner_of-given_up owners who [] object ∙ ap (λ b. cond (not b) (owner_of owners object) None) (and-false (is_own owners who object))
 
+-- a session that gives up all owns nothing
+pub none-left : (owners : Owners) (who at : ℕ) → owner_of (all_given_up owners who) at ≢ Some who
+none-left owners who at owned =
+    let before = all-given-owned owners who at who owned in
+    let own : is_own owners who at ≡ true = ap (λ (owner : Option ℕ). elim owner as (λ _. Bool) [ None ↦ false | Some one ↦ one == who ]) before ∙ eq-eqb who who refl in
+    none-some who (sym (ap (λ (b : Bool). cond (not b) (owner_of owners at) None) own) ∙ sym (owner_of-all_given_up owners who at) ∙ owned)
+
 module _ (w after : Workspace) (other : ℕ) (view : ViewState) (it : ViewFits w other view) where
   -- a commit that changes nothing of the session's own, and owners that stay
-  view-stays : (commit : List Change) → after.definitions ≡ w.definitions → after.history ≡ grown w.history commit → ((object : ℕ) → owner_of w.owners object ≡ Some other → change_of (bodies_of w.definitions) object commit ≡ None) → ((object : ℕ) → (owner_of after.owners object ≡ Some other) ↔ (owner_of w.owners object ≡ Some other)) → ViewFits after other view
+  pub view-stays : (commit : List Change) → after.definitions ≡ w.definitions → after.history ≡ grown w.history commit → ((object : ℕ) → owner_of w.owners object ≡ Some other → change_of (bodies_of w.definitions) object commit ≡ None) → ((object : ℕ) → (owner_of after.owners object ≡ Some other) ↔ (owner_of w.owners object ≡ Some other)) → ViewFits after other view
   view-stays commit same_definitions grows mine same =
       let bodies = bodies_of w.definitions in
       let fit = others-fit bodies w.definitions w.history w.owners after.owners commit view
@@ -186,15 +276,3 @@ module _ (w after : Workspace) (other : ℕ) (view : ViewState) (it : ViewFits w
       (λ object. subst (λ (by : ℕ). (owner_of after.owners object ≡ Some by) ↔ (owner_of w.owners object ≡ Some by)) (sym it.number) (same object)) it.fits in
       let with_history = subst (λ (history : List (List Change)). seen.Fits w.definitions bodies history after.owners view) (sym grows) fit in
       view-fits after other view it.number (subst (λ (definitions : List Def). seen.Fits definitions (bodies_of definitions) after.history after.owners view) (sym same_definitions) with_history) (goods w other view it)
-
-  -- another session was granted an object
-  pub view-foreign_granted : (who object : ℕ) → other ≢ who → owner_of w.owners object ≢ Some other → after ≡ record w { owners = taken w.owners who (object ∷ []) } → ViewFits after other view
-  view-foreign_granted who object differs foreign is =
-      view-stays [] (ap (λ (those : Workspace). those.definitions) is) (ap (λ (those : Workspace). those.history) is) (λ at own. refl)
-      (λ at. subst (λ (owners : Owners). (owner_of owners at ≡ Some other) ↔ (owner_of w.owners at ≡ Some other)) (sym (ap (λ (those : Workspace). those.owners) is)) (taken-other w.owners who other object at differs foreign))
-
-  -- another session committed
-  pub view-foreign_committed : (who : ℕ) (commit : List Change) → after.definitions ≡ w.definitions → after.history ≡ grown w.history commit → after.owners ≡ given_up w.owners who [] → ((object : ℕ) → owner_of w.owners object ≡ Some other → change_of (bodies_of w.definitions) object commit ≡ None) → ViewFits after other view
-  view-foreign_committed who commit same_definitions grows gives mine =
-      view-stays commit same_definitions grows mine
-      (λ at. let owner = ap (λ (owners : Owners). owner_of owners at) gives ∙ owner_of-none_given w.owners who at in ((λ owned. sym owner ∙ owned), λ owned. owner ∙ owned))

@@ -9,6 +9,8 @@ pub mod Pairs
 pub mod KeptKinds
 pub mod StoredBodies
 pub mod Replies
+pub mod Granting
+pub mod ReadyLines
 pub mod Fitting
 pub mod FittingViews
 pub mod Recording
@@ -25,7 +27,9 @@ pub mod SnapshotReads
 pub mod SnapshotReadsOfRuns
 pub mod RefusedLines
 pub mod ReachableWorlds
+pub mod Readers
 pub mod OneLineAnswers
 pub mod FittingSessions
+pub mod LineOrder
 pub mod LineAnswers
 pub mod AcquireAnswers

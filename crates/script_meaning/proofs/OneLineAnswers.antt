@@ -19,9 +19,10 @@ use Rattle.ses_step.specs.declared.command.Asked.TheVariants as asks
 use Rattle.ses_step.specs.declared.session.Begun.{Begun}
 use Rattle.ses_step.specs.declared.session.Begun.TheVariants.{Said, Ask}
 use Rattle.ses_step.specs.declared.session.Known.{Known as Session}
+use Rattle.ses_step.specs.declared.session.Session.{Session as Waiting}
 use Rattle.ses_step.specs.Answers.{answer_of}
-use Rattle.ses_step.specs.SessionLines.{asked}
-use Rattle.ses_step.specs.Sessions.{begun, finished}
+use Rattle.ses_step.specs.SessionLines.{asked, begun_as}
+use Rattle.ses_step.specs.Sessions.{finished}
 use Rattle.script_world.specs.Laws.{lines_in, TextFixesWorld}
 use Rattle.script_world.specs.Meaning as world
 use Rattle.script_world.specs.Outcomes.{Outcome, among}
@@ -29,7 +30,7 @@ use Rattle.script_world.specs.Worlds.{Event}
 use Rattle.script_world.proofs.callers.NoSession.{Speaks}
 use Rattle.script_world.proofs.callers.Fixing.{TellsApart, text_fixes_world}
 use Rattle.script_meaning.specs.LineAnswers.{IsOneLine}
-use Rattle.script_meaning.specs.Language.{store_writing, history_machine, Waiting, begun_of, begin_asked, finish, by_history}
+use Rattle.script_meaning.specs.Language.{store_writing, history_machine, begun_of, begin_asked, finish, by_history}
 use Rattle.script_meaning.specs.Transcript.{opening}
 use Rattle.script_meaning.proofs.Records.{writing-grants}
 
@@ -42,18 +43,20 @@ abbrev OneLineOf : world.Begun Entry Session Waiting → Type 0
 OneLineOf (world.said answer session) = lines_in answer ≡ 1
 OneLineOf (world.ask asked waiting) = Unit {0}
 
-one-begun : (first : Begun) (session : Session) → OneLineOf (begun_of (first, session))
+one-begun : (first : Begun) (session : Waiting) → OneLineOf (begun_of (first, session))
 one-begun (Said answer) session = one-line answer
 one-begun (Ask asked) session = tt
 
 one-asked : (d : List Def) (s : Session) (a : Asked) → OneLineOf (begin_asked d s a)
 one-asked d s (asks.Refused refusal) = refl
-one-asked d s (asks.Runs own) = one-begun (begun d s own).0 (begun d s own).1
+one-asked d s (asks.Runs own) =
+    let b = begun_as d s (asks.Runs own) in
+    one-begun b.0 b.1
 
 pub speaks : (coming : List Outcome) → Speaks (by_history coming) IsOneLine
 speaks coming = record {
   begins = λ d s statement answer after is. subst OneLineOf is (one-asked d s (asked d s statement.line statement.from));
-  finishes = λ d names waiting reply. one-line (finished d names waiting.0 waiting.1 reply).0;
+  finishes = λ d names waiting reply. one-line (finished d names waiting reply).0;
   crowded = refl;
 }
 

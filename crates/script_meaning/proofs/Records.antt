@@ -1,10 +1,11 @@
 -- The records of a run stand for what is committed.
 use Rattle.std.specs.Prelude.{◌≡◌, ◌≤◌, ◌&&◌, ◌++◌, ℕ, Bool, true, false, List, [], ◌∷◌, All, Option, Some, None, unwrap_or, nat_lt, if◌then◌else◌, refl}
-use Rattle.std.proofs.Common.{◌∙◌, ap, sym, subst, ap₂, ⊎_elim, arith}
+use Rattle.std.proofs.Common.{◌∙◌, ap, sym, subst, ap₂, arith}
 use Rattle.std.proofs.lemmas.Bool.{and_from, ltb-false, true≢false}
 use Rattle.std.proofs.lemmas.Option.{none-some, same_Some}
 use Rattle.aw_schema.specs.declared.definition.Def.{Def}
 use Rattle.aw_body.specs.declared.change.Change.{Change}
+use Rattle.aw_body.specs.declared.change.Seen.{Seen}
 use Rattle.aw_body.specs.KeptBodies.{bodies_of}
 use Rattle.aw_codec.specs.declared.record.Decoded.{Decoded}
 use Rattle.aw_codec.specs.declared.record.Decoded.TheVariants as stored
@@ -20,12 +21,16 @@ use Rattle.aw_store.specs.Stores.{StandFor, record_of}
 use Rattle.aw_store.proofs.callers.Commits.{can-write}
 use Rattle.aw_store.proofs.callers.Following.{definitions_of-commit, commits_of-commit}
 use Rattle.mv_view.specs.Rules.{changes}
+use Rattle.mv_view.specs.ViewState.{ViewState}
+use Rattle.ses_step.specs.declared.command.Command.{Command}
+use Rattle.ses_step.specs.declared.command.Command.TheVariants as command
 use Rattle.ses_step.specs.declared.session.Known.{Known as Session}
+use Rattle.ses_step.specs.Sessions.{leaving}
 use Rattle.script_world.specs.Outcomes.{Outcome}
 use Rattle.script_world.proofs.callers.DiskFits.{Recorded}
 use Rattle.script_meaning.specs.Fit.{AreDefinable}
 use Rattle.script_meaning.specs.Language.{bytes_of, kept_step, store_writing, history_machine}
-use Rattle.script_meaning.proofs.Begins.{AskedOf, AsksCommit, acquiring}
+use Rattle.script_meaning.proofs.Begins.{AskedOf, generations_in}
 use Rattle.script_meaning.proofs.CutOff.{cut_off-cases, large-unwritten}
 use Rattle.script_meaning.proofs.FittingSessions.{Sound, Fits, Spoken, asked_so, Defined}
 use Rattle.script_meaning.proofs.Recording.{are_changes}
@@ -84,18 +89,35 @@ AreRecords-push [] last are is = (is, tt)
 AreRecords-push (first ∷ records) last are is = (are.0, AreRecords-push records last are.1 is)
 
 -- the changes of a commit that a session asks are those of its view
-asked-commit : (s : Session) (who : ℕ) (commit : List Change) (leave : List ℕ) → AskedOf s (entry.Commit who commit leave) → (P : List Change → Type 0) → ((it : AsksCommit s (entry.Commit who commit leave)) → P (changes it.view)) → P commit
-asked-commit s who commit leave known P holds =
-    ⊎_elim (λ it. never-attach s.who it.is) (λ later. ⊎_elim (λ it. never-acquire s.who it.object it.sees.found.number it.is) (λ it. subst P (it.made ∙ same s.who (it.change ∷ it.changes) [] it.is) (holds it)) later) known
+asked-commit : (s : Session) (own : Command) (who : ℕ) (commit : List Change) (leave : List ℕ) → AskedOf s own (entry.Commit who commit leave) → (P : List Change → Type 0) → ((view : ViewState) → s.view ≡ Some view → P (changes view)) → P commit
+asked-commit s command.Commit who commit leave known P holds = subst P (same s.who (changes known.view) (leaving known.view) known.is) (holds known.view known.attached)
   where
     same : (by : ℕ) (others : List Change) (those : List ℕ) → entry.Commit who commit leave ≡ entry.Commit by others those → others ≡ commit
     same by others those is = cc
-
-    never-attach : (by : ℕ) → entry.Commit who commit leave ≡ entry.Attach by → P commit
-    never-attach by is = cc
-
-    never-acquire : (by object number : ℕ) → entry.Commit who commit leave ≡ acquiring by object number → P commit
-    never-acquire by object number is = cc
+asked-commit s (command.Attach mode) who commit leave known P holds = never s.who known.is
+  where
+    never : (by : ℕ) → entry.Commit who commit leave ≡ entry.Attach by → P commit
+    never by is = cc
+asked-commit s command.Detach who commit leave known P holds = never s.who known.is
+  where
+    never : (by : ℕ) → entry.Commit who commit leave ≡ entry.Detach by → P commit
+    never by is = cc
+asked-commit s (command.Acquire keep fresh same) who commit leave known P holds = never s.who (generations_in s keep) (generations_in s same) known.is
+  where
+    never : (by : ℕ) (one other : List Seen) → entry.Commit who commit leave ≡ entry.Acquire by one fresh other → P commit
+    never by one other is = cc
+asked-commit s (command.Resync objects) who commit leave known P holds = never s.who known.is
+  where
+    never : (by : ℕ) → entry.Commit who commit leave ≡ entry.Resync by objects → P commit
+    never by is = cc
+asked-commit s (command.Release objects) who commit leave known P holds = never s.who (known.object ∷ known.unstaged) known.is
+  where
+    never : (by : ℕ) (those : List ℕ) → entry.Commit who commit leave ≡ entry.Release by those → P commit
+    never by those is = cc
+asked-commit s (command.Revert objects) who commit leave known P holds = absurd known
+asked-commit s (command.Update objects) who commit leave known P holds = absurd known
+asked-commit s (command.Assign name value) who commit leave known P holds = absurd known
+asked-commit s (command.Show name) who commit leave known P holds = absurd known
 
 module _ (those : List Decoded) (d : List Def) (shared : Workspace) (count who : ℕ) (s : Session) (sound : Sound d shared count) (fits : Fits d shared who s) (match : Stands those d shared) where
   definable : AreDefinable shared.definitions
@@ -112,10 +134,10 @@ module _ (those : List Decoded) (d : List Def) (shared : Workspace) (count who :
   stand : StandFor those (Some d) table
   stand = record { replayable = match.replayable; definitions_are = sym match.definitions_are; owners = shared.owners; table_is = same_table }
 
-  stored_commit : (commit : List Change) (by : ℕ) (leave : List ℕ) → AskedOf s (entry.Commit by commit leave) → writes (entry.Commit by commit leave) (shared_step (bodies_of shared.definitions) shared (entry.Commit by commit leave)).0 ≡ true → bytes_of (stored.Commit commit) ≤ 67108864 → Match (those ++ stored.Commit commit ∷ []) d (shared.history ++ commit ∷ [])
-  stored_commit commit by leave known granted short =
+  stored_commit : (own : Command) (commit : List Change) (by : ℕ) (leave : List ℕ) → AskedOf s own (entry.Commit by commit leave) → writes (entry.Commit by commit leave) (shared_step (bodies_of shared.definitions) shared (entry.Commit by commit leave)).0 ≡ true → bytes_of (stored.Commit commit) ≤ 67108864 → Match (those ++ stored.Commit commit ∷ []) d (shared.history ++ commit ∷ [])
+  stored_commit own commit by leave known granted short =
       let can = can-write those (Some d) table stand by commit leave granted in
-      let all : All IsChange commit = asked-commit s by commit leave known (λ made. bytes_of (stored.Commit made) ≤ 67108864 → All IsChange made) (λ it few. are_changes shared who it.view (fits.session.view it.view it.attached) definable few) short in
+      let all : All IsChange commit = asked-commit s own by commit leave known (λ made. bytes_of (stored.Commit made) ≤ 67108864 → All IsChange made) (λ view attached few. are_changes shared who view (fits.session.view view attached) definable few) short in
       record {
         definitions_are = definitions_of-commit those commit ∙ match.definitions_are;
         commits = commits_of-commit those commit ∙ ap (λ (history : List (List Change)). history ++ commit ∷ []) match.commits;
@@ -126,14 +148,14 @@ module _ (those : List Decoded) (d : List Def) (shared : Workspace) (count who :
         });
       }
 
-  granted_match : (asked : Entry) → AskedOf s asked → writes asked (shared_step (bodies_of shared.definitions) shared asked).0 ≡ true → bytes_of (record_of asked) ≤ 67108864 → Match (those ++ record_of asked ∷ []) d (shared_step (bodies_of shared.definitions) shared asked).1.history
-  granted_match asked known granted short =
+  granted_match : (own : Command) (asked : Entry) → AskedOf s own asked → writes asked (shared_step (bodies_of shared.definitions) shared asked).0 ≡ true → bytes_of (record_of asked) ≤ 67108864 → Match (those ++ record_of asked ∷ []) d (shared_step (bodies_of shared.definitions) shared asked).1.history
+  granted_match own asked known granted short =
       let step : Entry → Reply = λ asked. (shared_step (bodies_of shared.definitions) shared asked).0 in
       let grants = writing-grants asked (step asked) granted in
       let commit = grants.change ∷ grants.changes in
-      let P : Entry → Type 0 = λ asked. AskedOf s asked → writes asked (step asked) ≡ true → bytes_of (record_of asked) ≤ 67108864 → Match (those ++ record_of asked ∷ []) d (workspace_after shared asked Committed).history in
+      let P : Entry → Type 0 = λ asked. AskedOf s own asked → writes asked (step asked) ≡ true → bytes_of (record_of asked) ≤ 67108864 → Match (those ++ record_of asked ∷ []) d (workspace_after shared asked Committed).history in
       subst (λ (reply : Reply). Match (those ++ record_of asked ∷ []) d (workspace_after shared asked reply).history) (sym grants.reply_is)
-      (subst P (sym grants.entry_is) (λ known granted short. stored_commit commit grants.who grants.leave known granted short) known granted short)
+      (subst P (sym grants.entry_is) (λ known granted short. stored_commit own commit grants.who grants.leave known granted short) known granted short)
 
   abbrev Written : Entry → Reply × Workspace → Type 0
   Written asked r = writes asked r.0 ≡ true → Match (those ++ record_of asked ∷ []) d r.1.history
@@ -141,12 +163,12 @@ module _ (those : List Decoded) (d : List Def) (shared : Workspace) (count who :
   abbrev Passed : Entry → Reply × Workspace → Type 0
   Passed asked r = writes asked r.0 ≡ false → Match those d r.1.history
 
-  written : (asked : Entry) → AskedOf s asked → Written asked (kept_step shared asked)
-  written asked known =
+  written : (own : Command) (asked : Entry) → AskedOf s own asked → Written asked (kept_step shared asked)
+  written own asked known =
       let r = shared_step (bodies_of shared.definitions) shared asked in
       cut_off-cases shared asked r (Written asked)
       (λ bytes granted long writing. absurd (true≢false (sym writing ∙ large-unwritten asked bytes)))
-      (λ uncut writing. granted_match asked known writing (ltb-false 67108864 (bytes_of (record_of asked)) (sym (ap (λ (b : Bool). b && nat_lt 67108864 (bytes_of (record_of asked))) writing) ∙ uncut)))
+      (λ uncut writing. granted_match own asked known writing (ltb-false 67108864 (bytes_of (record_of asked)) (sym (ap (λ (b : Bool). b && nat_lt 67108864 (bytes_of (record_of asked))) writing) ∙ uncut)))
 
   passed : (asked : Entry) → Passed asked (kept_step shared asked)
   passed asked =
@@ -159,7 +181,7 @@ commits_recorded next records = record {
   opens = λ d it. subst (λ (before : List Decoded). Match (before ++ store_writing.of_definitions d ∷ []) d []) (sym it.1) (definitions_match d it.0);
   writes = λ those d shared count who s statement it waiting r spoken few sound fits asks is match.
       let found = some-writes (writes it (kept_step shared it).0) (record_of it) r is in
-      subst (λ (last : Decoded). Match (those ++ last ∷ []) d (kept_step shared it).1.history) found.1 (written those d shared count who s sound fits match it (asked_so d s statement it waiting asks).1 found.0);
+      subst (λ (last : Decoded). Match (those ++ last ∷ []) d (kept_step shared it).1.history) found.1 (let asked = asked_so d s statement it waiting asks in written those d shared count who s sound fits match asked.own it asked.asked found.0);
   passes = λ those d shared count who s statement it waiting spoken few sound fits asks is match.
       passed those d shared count who s sound fits match it (none-writes (writes it (kept_step shared it).0) (record_of it) is);
 }

@@ -16,6 +16,8 @@ use Rattle.aw_body.specs.KeptBodies.{bodies_of}
 use Rattle.dml_tree.specs.declared.definition.Defined.{Defined}
 use Rattle.dml_tree.specs.declared.definition.Defined.TheVariants as tree
 use Rattle.dml_tree.specs.declared.definition.Definition.{Definition as Tree}
+use Rattle.dml_tree.specs.declared.statement.Mode.{Mode}
+use Rattle.dml_tree.specs.declared.statement.Mode.TheVariants.{Multi, ReadOnly}
 use Rattle.dml_tree.specs.declared.statement.Statement.{Statement}
 use Rattle.dml_tree.specs.declared.statement.Statement.TheVariants as statement
 use Rattle.dml_grammar.specs.declared.fault.ParseFault.{ParseFault}
@@ -43,12 +45,14 @@ use Rattle.ses_step.specs.declared.definition.NamedKind.{NamedKind}
 use Rattle.ses_step.specs.declared.line.LineForm.{LineForm}
 use Rattle.ses_step.specs.declared.line.LineForm.TheVariants as form
 use Rattle.ses_step.specs.declared.session.Known.{Known as Session}
+use Rattle.ses_step.specs.declared.session.Session.{Session as Waiting}
 use Rattle.ses_step.specs.Commands.{command_of}
 use Rattle.ses_step.specs.Kept.{kept_kind}
 use Rattle.ses_step.specs.Lines.{keeps_form, after_blanks, is_passed_over, has_prefix, is_definition_line, opens_block, is_end, form_behind, line_form}
 use Rattle.ses_step.specs.Refusing as line
-use Rattle.ses_step.specs.Refusing.{attachment_refusal, checked, owns, first_owned, first_foreign, held_refusal, missing, checked_refusal, statement_refusal}
+use Rattle.ses_step.specs.Refusing.{attachment_refusal, publishes, mode_refusal, checked, objects_named, owns, first_owned, first_foreign, held_refusal, missing, checked_refusal, statement_refusal}
 use Rattle.ses_step.specs.SessionLines.{parse_refusal, runs, asked_unless, asked_by, asked}
+use Rattle.ses_step.specs.Sessions.{kept_waiting}
 use Rattle.ses_step.specs.Words.{is_blank}
 use Rattle.script_meaning.proofs.Begins.{IsOwn, begins}
 use Rattle.script_meaning.proofs.CutOff.{cut_off-cases}
@@ -63,10 +67,10 @@ use Rattle.script_meaning.specs.CommitFaults.{is_fault, fault_answer}
 use Rattle.script_meaning.specs.Defining.{def_of, names_in, told, define_refusal, accepted_by}
 use Rattle.script_meaning.specs.RecordsOfRuns.{SameState}
 use Rattle.ses_report.specs.Reports as report
-use Rattle.ses_report.specs.Refusals.{no_form, syntax, no_value, repeated, too_many, not_attached, already_attached, not_acquired, acquired, definitions_closed, bad_line, in_line}
+use Rattle.ses_report.specs.Refusals.{no_form, syntax, no_value, repeated, too_many, not_attached, already_attached, not_acquired, acquired, definitions_closed, read_only, bad_line, in_line}
 use Rattle.script_world.proofs.callers.Refusals.{Mild, refusal_changes_nothing}
 use Rattle.script_meaning.specs.DefinitionLines.{is_block, at_line, form_refusal, late, name_refusal, unbuilt, define_kind, fault_refusal, define_read, define_unless, define}
-use Rattle.script_meaning.specs.Language.{store_writing, Written, Waiting, form_of, begun_of, begin_asked, begin, finish, HistoryDisk, HistoryWorld, kept_step, history_machine, by_history}
+use Rattle.script_meaning.specs.Language.{store_writing, Written, form_of, begun_of, begin_asked, begin, finish, HistoryDisk, HistoryWorld, kept_step, history_machine, by_history}
 use Rattle.script_meaning.specs.Language as language_is
 
 -- ---- refusals that tell of no fault
@@ -278,6 +282,14 @@ attachment-quiet s (statement.Aggregate name map) = detached-quiet s.view
 attachment-quiet s (statement.Allocate source basis target map) = detached-quiet s.view
 attachment-quiet s (statement.Call program arguments) = detached-quiet s.view
 
+mode-quiet : (mode : Mode) (one : Statement) → MayQuiet (mode_refusal mode one)
+mode-quiet Multi one = tt
+mode-quiet ReadOnly one = by (publishes one)
+  where
+    by : (test : Bool) → MayQuiet (cond test (Some read_only) None)
+    by true = refl
+    by false = tt
+
 owned-quiet : (s : Session) (objects : List (List ℕ × ℕ)) → MayQuiet (first_owned s objects)
 owned-quiet s objects = map-quiet (λ (named : List ℕ × ℕ). acquired named.0) (λ named. refl) (find (owns s) objects)
 
@@ -307,7 +319,8 @@ held-quiet s (statement.Call program arguments) objects = tt
 
 statement-quiet : (d : List Def) (s : Session) (one : Statement) → MayQuiet (statement_refusal d s one)
 statement-quiet d s one =
-    or-quiet (attachment_refusal s one) (checked_refusal d s one (checked d one)) (attachment-quiet s one) (by (checked d one))
+    or-quiet (attachment_refusal s one) (option_or (mode_refusal s.mode one) (checked_refusal d s one (checked d one))) (attachment-quiet s one)
+    (or-quiet (mode_refusal s.mode one) (checked_refusal d s one (checked d one)) (mode-quiet s.mode one) (by (checked d one)))
   where
     by : (r : Result Typed TypeFault) → MayQuiet (checked_refusal d s one r)
     by (Err fault) = told-type-quiet fault
@@ -326,8 +339,8 @@ asked-quiet d s text from = by (statement_in text from)
     by_command None = refl
     by_command (Some own) = tt
 
-    by_refusal : (one : Statement) (found : Option Refusal) → MayQuiet found → QuietAsked (asked_unless found one)
-    by_refusal one None quiet = by_command (command_of one)
+    by_refusal : (one : Statement) (found : Option Refusal) → MayQuiet found → QuietAsked (asked_unless d found one)
+    by_refusal one None quiet = by_command (command_of one (objects_named d one))
     by_refusal one (Some refusal) quiet = quiet
 
     by : (read : Result Statement ParseFault) → QuietAsked (asked_by d s read)
@@ -337,7 +350,7 @@ asked-quiet d s text from = by (statement_in text from)
 -- a session that answers alone tells of no fault, and one that refuses or asks is as it was
 abbrev Gentle : Session → world.Begun Entry Session Waiting → Type 0
 Gentle s (world.said answer after) = (refuses_so is_fault answer.refusal ≡ false) × (is_some answer.refusal ≡ true → after ≡ s)
-Gentle s (world.ask it waiting) = waiting ≡ (s, it)
+Gentle s (world.ask it waiting) = waiting.known ≡ s
 
 own_quiet : (refusal : Refusal) → IsOwn refusal → is_fault refusal ≡ false
 own_quiet refusal own =
@@ -346,7 +359,16 @@ own_quiet refusal own =
 gentle_as : (d : List Def) (s : Session) (a : Asked) → QuietAsked a → Gentle s (begin_asked d s a)
 gentle_as d s (Refused refusal) quiet = (quiet, λ refused. refl)
 gentle_as d s (Runs command) quiet =
-    begins d s command (λ b. Gentle s (begun_of b)) (λ refusal own. (own_quiet refusal own, λ refused. refl)) (λ it asked. refl) (refl, λ refused. refl) (λ name value object assigned. (refl, λ refused. absurd (true≢false (sym refused)))) (λ view is attached. (refl, λ refused. absurd (true≢false (sym refused)))) (λ name object shown. (refl, λ refused. refl))
+    begins d s command (λ b. Gentle s (begun_of (kept_waiting command b))) (record {
+      refused = λ refusal own. (own_quiet refusal own, λ refused. refl);
+      asks = λ it asked. refl;
+      nothing = λ view is attached made left. (refl, λ refused. refl);
+      assigned = λ name value object it. (refl, λ refused. absurd (true≢false (sym refused)));
+      shown = λ name object it. (refl, λ refused. refl);
+      released = λ view objects is attached left. (refl, λ refused. absurd (true≢false (sym refused)));
+      reverted = λ view objects is attached. (refl, λ refused. absurd (true≢false (sym refused)));
+      updated = λ view objects is attached. (refl, λ refused. absurd (true≢false (sym refused)));
+    })
 
 gentle : (d : List Def) (s : Session) (written : Written) → Gentle s (begin d s written)
 gentle d s written = gentle_as d s (asked d s written.line written.from) (asked-quiet d s written.line written.from)
@@ -354,7 +376,7 @@ gentle d s written = gentle_as d s (asked d s written.line written.from) (asked-
 gentle_said : (d : List Def) (s : Session) (statement : Written) (answer : report.Answer) (after : Session) → begin d s statement ≡ world.said answer after → Gentle s (world.said answer after)
 gentle_said d s statement answer after is = subst (Gentle s) is (gentle d s statement)
 
-gentle_ask : (d : List Def) (s : Session) (statement : Written) (it : Entry) (waiting : Waiting) → begin d s statement ≡ world.ask it waiting → waiting ≡ (s, it)
+gentle_ask : (d : List Def) (s : Session) (statement : Written) (it : Entry) (waiting : Waiting) → begin d s statement ≡ world.ask it waiting → waiting.known ≡ s
 gentle_ask d s statement it waiting is = subst (Gentle s) is (gentle d s statement)
 
 -- a reply of the step tells of no fault, whatever was asked
@@ -394,11 +416,11 @@ workspace-refused w (Detach who) Detached refused = cc
 workspace-refused w _ _ refused = refl
 
 -- where a reply refuses, all is as it was
-abbrev Calm : List Def → List (List ℕ) → Workspace → Session → Entry → Reply × Workspace → Type 0
-Calm d names shared s it r =
-    is_some (finish d names (s, it) r.0).0.refusal ≡ true → ((finish d names (s, it) r.0).1 ≡ s) × (r.1 ≡ shared)
+abbrev Calm : List Def → List (List ℕ) → Workspace → Waiting → Reply × Workspace → Type 0
+Calm d names shared s r =
+    is_some (finish d names s r.0).0.refusal ≡ true → ((finish d names s r.0).1 ≡ s.known) × (r.1 ≡ shared)
 
-calm_reply : (d : List Def) (names : List (List ℕ)) (shared : Workspace) (s : Session) (it : Entry) (reply : Reply) → Calm d names shared s it (reply, workspace_after shared it reply)
+calm_reply : (d : List Def) (names : List (List ℕ)) (shared : Workspace) (s : Waiting) (it : Entry) (reply : Reply) → Calm d names shared s (reply, workspace_after shared it reply)
 calm_reply d names shared s it (Attached fresh) = λ refused. absurd (true≢false (sym refused))
 calm_reply d names shared s it (Acquired fresh) = λ refused. absurd (true≢false (sym refused))
 calm_reply d names shared s it (Resynced fresh) = λ refused. absurd (true≢false (sym refused))
@@ -413,10 +435,10 @@ calm_reply d names shared s it (Worn object) = λ refused. (refl, workspace-refu
 calm_reply d names shared s it (TooLarge bytes) = λ refused. (refl, workspace-refused shared it (TooLarge bytes) refl)
 calm_reply d names shared s it Fault = λ refused. (refl, workspace-refused shared it Fault refl)
 
-calm : (d : List Def) (names : List (List ℕ)) (shared : Workspace) (s : Session) (it : Entry) → Calm d names shared s it (kept_step shared it)
+calm : (d : List Def) (names : List (List ℕ)) (shared : Workspace) (s : Waiting) (it : Entry) → Calm d names shared s (kept_step shared it)
 calm d names shared s it =
     let r = shared_step (bodies_of shared.definitions) shared it in
-    cut_off-cases shared it r (Calm d names shared s it) (λ bytes granted long refused. (refl, refl)) (λ kept. calm_reply d names shared s it r.0)
+    cut_off-cases shared it r (Calm d names shared s) (λ bytes granted long refused. (refl, refl)) (λ kept. calm_reply d names shared s it r.0)
 
 pub language_hears : Hears is_fault fault_answer store_writing history_machine
 language_hears = record {
@@ -437,8 +459,8 @@ language_mild next = record {
   begins = λ d s statement answer after is refused. (gentle_said d s statement answer after is).1 refused;
   steps = λ d names disk s statement it waiting is.
       let asked = gentle_ask d s statement it waiting is in
-      let P : Waiting → Reply → HistoryDisk → Type 0 = λ those reply after. is_some (finish d names those reply).0.refusal ≡ true → ((finish d names those reply).1 ≡ s) × (after.state ≡ disk.state) in
-      subst (λ (those : Waiting). let r = (on_disk store_writing next history_machine).step disk it in P those r.0 r.1) (sym asked) (step-holds store_writing history_machine next (λ reply after. is_some (finish d names (s, it) reply).0.refusal ≡ true → ((finish d names (s, it) reply).1 ≡ s) × (after ≡ disk.state)) disk it (calm d names disk.state s it) (λ refused. (refl, refl)));
+      step-holds store_writing history_machine next (λ reply after. is_some (finish d names waiting reply).0.refusal ≡ true → ((finish d names waiting reply).1 ≡ s) × (after ≡ disk.state)) disk it
+      (λ refused. let kept = calm d names disk.state waiting it refused in (kept.0 ∙ asked, kept.1)) (λ refused. (asked, refl));
 }
 
 pub refusals_change_nothing : (coming : List Outcome) (w : HistoryWorld) (event : Event) → RefusalChangesNothing SameState (by_history coming) w event

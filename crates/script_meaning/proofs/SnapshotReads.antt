@@ -1,10 +1,10 @@
--- What a session reads and has of an object is the latest generation when it attaches, and what its own commands make of that.
-use Rattle.std.specs.Prelude.{◌≡◌, ◌≢◌, ◌⊎◌, ◌+◌, ◌==◌, ◌&&◌, ◌||◌, ℕ, ℤ, min, Bool, true, false, cond, List, [], ◌∷◌, length, Option, Some, None, Result, Ok, Err, is_some, nat_lt, slice_get, if◌then◌else◌, refl}
-use Rattle.std.specs.List.{list_all}
+-- What a session sees of an object is the latest generation when it attaches, and what its own commands make of that.
+use Rattle.std.specs.Prelude.{◌≡◌, ◌≢◌, ◌⊎◌, ◌+◌, ◌==◌, ◌&&◌, ◌||◌, ℕ, ℤ, min, Bool, true, false, not, cond, List, [], ◌∷◌, length, Option, Some, None, Result, Ok, Err, is_some, nat_lt, slice_get, refl}
+use Rattle.std.specs.List.{list_all, cons_option}
 use Rattle.std.specs.Option.{option_map}
 use Rattle.std.specs.FinMap.{put, is_sorted}
 use Rattle.std.proofs.Common.{◌∙◌, ap, sym, subst, inl, inr, ⊎_elim, arith}
-use Rattle.std.proofs.lemmas.Bool.{and_parts, eqb-true, eq-eqb, true≢false, cases_Bool}
+use Rattle.std.proofs.lemmas.Bool.{and_parts, eqb-true, true≢false}
 use Rattle.std.proofs.lemmas.Option.{none-some}
 use Rattle.aw_cell.specs.declared.cell.Cell.{Cell}
 use Rattle.aw_cell.specs.declared.cell.Cell.TheVariants.{Na, Int}
@@ -20,70 +20,61 @@ use Rattle.aw_var.specs.Variable.{is_pair_of}
 use Rattle.aw_body.specs.declared.body.Body.{Body}
 use Rattle.aw_body.specs.declared.body.Body.TheVariants.{Dim, Rel, Set, Var}
 use Rattle.aw_body.specs.declared.change.Change.{Change}
+use Rattle.aw_body.specs.declared.change.Fresh.{Fresh}
 use Rattle.aw_body.specs.declared.patch.BodyPatch.TheVariants.{Cells as CellPatch}
 use Rattle.aw_body.specs.BodyPatches.{applied, difference}
-use Rattle.aw_body.specs.Generations.{Bodies}
+use Rattle.aw_body.specs.Generations.{Bodies, change_of}
 use Rattle.aw_body.specs.KeptBodies.{bodies_of}
-use Rattle.aw_body.specs.Owners.{owner_of, taken}
+use Rattle.aw_body.specs.Owners.{owner_of, given_up, taken}
+use Rattle.aw_body.specs.OwnerLaws.{owner_of-all_given_up}
 use Rattle.aw_codec.specs.declared.record.Decoded.{Decoded}
+use Rattle.dml_tree.specs.declared.statement.Mode.{Mode}
 use Rattle.mv_core.specs.declared.entry.Entry.TheVariants as entry
+use Rattle.mv_core.specs.declared.object.Object.{Object}
+use Rattle.mv_core.specs.Effects.{taken_of}
+use Rattle.mv_core.specs.Lookups.{kept_at, fresh_of, latest_of as handed}
 use Rattle.mv_core.specs.Replies.{first_worn}
-use Rattle.mv_core.specs.Workspace.{Workspace, standing}
+use Rattle.mv_core.specs.Workspace.{Workspace, object_of as object_kept, standing}
 use Rattle.mv_view.specs.Each.{object_in, only, listed, names as is_named, passes}
-use Rattle.mv_view.specs.Fit as seen
+use Rattle.mv_view.specs.Laws.{unstaged_in}
 use Rattle.mv_view.specs.Rules as rule
-use Rattle.mv_view.specs.ViewState.{ObjectView, ViewState, IsOf, object_of, each, is_owned, owned_objects, kept_kinds}
+use Rattle.mv_view.specs.ViewState.{ObjectView, ViewState, IsOf, object_of, each, is_owned, owned_objects, kept_kinds, AreOwned}
 use Rattle.mv_view.proofs.callers.Each.{object_in-each, names-numbers}
-use Rattle.mv_view.proofs.callers.Fitting.{kinds-each, kind-cond}
+use Rattle.mv_view.proofs.callers.Fitting.{kinds-each, kind-cond, some-and, owned-named, named-latest}
 use Rattle.mv_view.proofs.callers.Forms.{alike, difference-itself, difference-other}
 use Rattle.ses_report.specs.declared.refusal.Refusal.{Refusal}
-use Rattle.ses_report.specs.Refusals.{not_attached, already_attached}
+use Rattle.ses_report.specs.Refusals.{not_attached, already_attached, not_acquired, owned_by, newer, full, too_large}
+use Rattle.ses_step.specs.declared.answer.Answer.{Answer}
 use Rattle.ses_step.specs.declared.answer.Answer.TheVariants.{Done, Shown, Refused}
 use Rattle.ses_step.specs.declared.command.Command.{Command}
 use Rattle.ses_step.specs.declared.command.Command.TheVariants as command
 use Rattle.ses_step.specs.declared.session.Begun.{Begun}
 use Rattle.ses_step.specs.declared.session.Begun.TheVariants.{Said, Ask}
 use Rattle.ses_step.specs.declared.session.Known.{Known as Session}
-use Rattle.ses_step.specs.Sessions.{located_cell, generation_in, is_single_at, cell_in, with_cell, commit_asked}
+use Rattle.ses_step.specs.Sessions.{is_single_at, cell_in, with_cell, sharing, seen_objects, or_all, leaving, release_asked, kept_waiting, name_of, name_at, IsReady}
 use Rattle.script_world.specs.Worlds.{Event}
 use Rattle.script_world.specs.Outcomes.{Outcome, among}
 use Rattle.script_meaning.specs.LineAnswers.{NamesSingle}
-use Rattle.script_meaning.specs.Extending.{IsCommitted}
+use Rattle.script_meaning.specs.Extending.{HasLatest, IsCommitted}
 use Rattle.script_meaning.specs.Fit.{SharedFits}
 use Rattle.script_meaning.specs.Language.{history_machine, by_history, HistoryDisk, HistoryWorld}
 use Rattle.aw_store.specs.StoredRecords.{CanBeOpened}
-use Rattle.script_meaning.specs.SnapshotReads.{IsFresh, Attaches, AttachGivesLatest, is_at, holding, assigns, read_after, staged_after, MovesBy, Moves, OwnCommandsMove, IsShown, ShowsWhatIsRead}
+use Rattle.script_meaning.specs.SnapshotReads.{is_at, holding, assigns, covers, latest, seen_after, Attaches, AttachGivesLatest, IsShown, ShowsWhatIsRead, first_seen, KeepsGeneration, AddsGeneration, MovesBy, Moves, moves_view, OwnCommandsMove, is_refusal}
 use Rattle.script_meaning.specs.Transcript.{world_at}
 use Rattle.script_meaning.specs.Turns.{Turn, turn_from, turn}
-use Rattle.script_meaning.proofs.LineAnswers.{cell-seen, single-seen}
-use Rattle.script_meaning.proofs.Begins.{Sees, located-cases, located_cell-cases}
-use Rattle.script_meaning.proofs.Differences.{gives_newer}
-use Rattle.script_meaning.proofs.DiskTurns.{unwritten_turn, turn-cases, attach-unwritten}
-use Rattle.script_meaning.proofs.DiskExtending.{acquire-plain}
-use Rattle.script_meaning.proofs.Extending.{told, committed_so}
+use Rattle.script_meaning.proofs.Begins.{Sees, located_cell-cases, generations_in}
+use Rattle.script_meaning.proofs.DiskTurns.{unwritten_turn, done_turn, turn-cases}
 use Rattle.script_meaning.proofs.Fitting.{IsGood, goods, one_cell, single-kind}
-use Rattle.script_meaning.proofs.FittingViews.{given, seen-latest, attached-kinds}
-use Rattle.script_meaning.proofs.KeptKinds.{if-some, each-some}
+use Rattle.script_meaning.proofs.Differences.{gives_newer}
+use Rattle.script_meaning.proofs.Extending.{told, committed_so}
+use Rattle.script_meaning.proofs.FittingViews.{given, seen-latest, attached-kinds, leaving-are}
+use Rattle.script_meaning.proofs.KeptKinds.{if-some, kept-seen, seen-kept}
+use Rattle.script_meaning.proofs.LineOrder.{cell-seen}
+use Rattle.script_meaning.proofs.LineAnswers.{single-seen}
 use Rattle.script_meaning.proofs.ReachableWorlds.{fits_at, found_at_number}
 use Rattle.script_meaning.proofs.Recording.{staged-changed}
-use Rattle.script_meaning.proofs.Replies.{number-small}
-use Rattle.script_meaning.proofs.TurnCases.{fitting, seen-here, sees-so, kept-kind, of_object, committed, acquire_turn, commit_turn}
-
--- ---- AW ATTACH
-
-pub attach_gives_latest : (coming : List Outcome) → AttachGivesLatest coming
-attach_gives_latest coming names disk s unattached =
-    let definitions = disk.state.definitions in
-    subst (λ (those : Option ViewState). Attaches disk (turn_from (by_history coming) definitions names disk (elim those [ None ↦ (Ask (entry.Attach s.who), s) | Some view ↦ (Said (Refused already_attached), s) ]))) (sym unattached)
-    (subst (Attaches disk) (sym (attach-unwritten coming definitions names disk s s.who)) (record {
-      answer = refl;
-      shared = refl;
-      view = rule.attached s.who definitions (given disk.state);
-      attached = refl;
-      kinds = attached-kinds disk.state s.who;
-      each = λ object. each-some (IsFresh disk.state object) (object_of (rule.attached s.who definitions (given disk.state)) object) (λ found there.
-          subst (IsFresh disk.state object) (sym (seen-latest disk.state s.who object found there).1) (record { has = record { number = refl; body = refl }; staged = refl; reads = refl; owned = refl }));
-    }))
+use Rattle.script_meaning.proofs.Replies.{kept-stands, number-small}
+use Rattle.script_meaning.proofs.TurnCases.{fitting, sees-so, kept-kind, acquire_turn, resync_turn, release_turn, committed, commit_turn}
 
 -- ---- the one cell of an INTEGER variable without dimensions
 
@@ -114,332 +105,445 @@ holding-applied (Var contents) value it =
     let pairs : list_all (is_pair_of 0 Integer) contents.cells ≡ true = subst (λ (kind : Kind). list_all (is_pair_of 0 kind) contents.cells ≡ true) it.form.1 (subst (λ (slots : ℕ). list_all (is_pair_of slots contents.kind) contents.cells ≡ true) it.form.0 it.valid.pairs) in
     contents-of contents.slots contents.kind value (put by_slots [] (Int value) contents.cells) it.form.0 it.form.1 (put-one (Int value) contents.cells it.valid.map.rising pairs)
 
--- ---- tests
+-- ---- what is handed over
+
+-- the latest generation of each object of the list that stands
+handed-at : (bodies : Bodies Body Change) (w : Workspace) (objects : List ℕ) (at : ℕ) → kept_at (standing bodies w) at ≡ Some (object_kept bodies w at) → rule.latest_of (handed (standing bodies w) objects) at ≡ cond (is_named objects at) (Some (fresh_of at (object_kept bodies w at))) None
+handed-at bodies w [] at stands = refl
+handed-at bodies w (object ∷ objects) at stands = by_test (object == at) refl (handed-at bodies w objects at stands)
+  where
+    rest : List Fresh
+    rest = handed (standing bodies w) objects
+
+    wanted : Bool → Option Fresh
+    wanted named = cond named (Some (fresh_of at (object_kept bodies w at))) None
+
+    Finds : Option (Object Body) → Type 0
+    Finds found = rule.latest_of (cons_option (option_map (fresh_of object) found) rest) at ≡ wanted ((object == at) || is_named objects at)
+
+    by_found : (object == at) ≡ false → (found : Option (Object Body)) → rule.latest_of rest at ≡ wanted (is_named objects at) → Finds found
+    by_found differs None later = later ∙ sym (ap (λ (b : Bool). wanted (b || is_named objects at)) differs)
+    by_found differs (Some it) later =
+        ap (λ (b : Bool). cond b (Some (fresh_of object it)) (rule.latest_of rest at)) differs ∙ later ∙ sym (ap (λ (b : Bool). wanted (b || is_named objects at)) differs)
+
+    by_test : (b : Bool) → (object == at) ≡ b → rule.latest_of rest at ≡ wanted (is_named objects at) → Finds (kept_at (standing bodies w) object)
+    by_test false differs later = by_found differs (kept_at (standing bodies w) object) later
+    by_test true same later =
+        let place : object ≡ at = eqb-true object at same in
+        ap (λ (found : Option (Object Body)). rule.latest_of (cons_option (option_map (fresh_of object) found) rest) at) (ap (kept_at (standing bodies w)) place ∙ stands)
+        ∙ ap (λ (b : Bool). cond b (Some (fresh_of object (object_kept bodies w at))) (rule.latest_of rest at)) same
+        ∙ ap (λ (o : ℕ). Some (fresh_of o (object_kept bodies w at))) place
+        ∙ sym (ap (λ (b : Bool). wanted (b || is_named objects at)) same)
+
+-- ---- small steps
 
 is_at-some : (found : Option ℕ) (place : ℕ) → is_at found place ≡ true → found ≡ Some place
 is_at-some None place is = absurd (true≢false (sym is))
 is_at-some (Some at) place is = ap Some (eqb-true at place is)
 
--- ---- without a disk
+given-up : (owner : Option ℕ) (who : ℕ) → cond (not (elim owner as (λ _. Bool) [ None ↦ false | Some by ↦ by == who ])) owner None ≡ cond (is_at owner who) None owner
+given-up None who = refl
+given-up (Some by) who = by_test (by == who)
+  where
+    by_test : (b : Bool) → cond (not b) (Some by) None ≡ cond b None (Some by)
+    by_test true = refl
+    by_test false = refl
 
-module _ (definitions : List Def) (names : List (List ℕ)) (sessions : List Session) (shared : Workspace) (s : Session) (fits : SharedFits definitions sessions shared) (own_place : slice_get sessions s.who ≡ Some s) (view : ViewState) (attached : s.view ≡ Some view) where
+and-true : (b : Bool) → (b && true) ≡ b
+and-true true = refl
+and-true false = refl
+
+and-false : (b : Bool) → (b && false) ≡ false
+and-false true = refl
+and-false false = refl
+
+-- ---- the commands but COMMIT
+
+module _ (coming : List Outcome) (definitions : List Def) (names : List (List ℕ)) (sessions : List Session) (disk : HistoryDisk) (s : Session) (fits : SharedFits definitions sessions disk.state) (own_place : slice_get sessions s.who ≡ Some s) (view : ViewState) (attached : s.view ≡ Some view) where
+  abbrev shared : Workspace
+  shared = disk.state
+
   abbrev bodies : Bodies Body Change
   bodies = bodies_of shared.definitions
 
-  abbrev MovesTo : Command → Workspace → Session → Type 0
-  MovesTo own after moved = Moves definitions own shared after s view moved
+  abbrev pub MovesTo : Command → Turn HistoryDisk → Type 0
+  MovesTo own t = Moves definitions own disk s view t
+
+  abbrev pub MovesTurn : Command → Turn Workspace → Type 0
+  MovesTurn own t = MovesTo own (unwritten_turn disk t)
 
   abbrev MovesOne : Command → Workspace → ℕ → ObjectView → ObjectView → Type 0
-  MovesOne own after object old new = MovesBy definitions s.who own shared after object old new
-
-  abbrev MovesTurn : Command → Turn Workspace → Type 0
-  MovesTurn own t = MovesTo own t.shared t.session
+  MovesOne own after object old new = MovesBy definitions own shared after object old new
 
   good : (object : ℕ) (found : ObjectView) → object_of view object ≡ Some found → IsGood found
   good object found there = if-some IsGood (object_of view object) found there (goods shared s.who view (fitting definitions names sessions shared s fits own_place view attached) object)
 
-  -- the session and what is shared stay
-  pub unmoved : (own : Command) → ((object : ℕ) (found : ObjectView) → object_of view object ≡ Some found → read_after definitions object own found.private ≡ found.private) → ((owned : Bool) (read staged : Body) → staged_after owned own read staged ≡ staged) → MovesTo own shared s
-  unmoved own reads stages = record {
-    view_after = view;
-    attached = attached;
-    kinds = refl;
-    each = λ object found is. (
-      found,
-      is,
-      record {
-        reads = sym (reads object found is);
-        stages = sym (stages (is_at (owner_of shared.owners object) s.who) found.private found.staged);
-        generation = inl (record { none_added = refl; number = refl; body = refl });
-        keeps = λ own. own;
-        gains = inl;
-      },
-    );
-  }
+  stands : (object : ℕ) (found : ObjectView) → object_of view object ≡ Some found → kept_at (standing bodies shared) object ≡ Some (object_kept bodies shared object)
+  stands object found there = kept-stands bodies shared object found.kind (kept-kind definitions names sessions shared s fits own_place view attached object found there)
+
+  pub quiet : (own : Command) (refusal : Refusal) → MovesTurn own (record { answer = Refused refusal; session = s; shared = shared })
+  quiet own refusal = inl (record { refused = refl; same_session = refl; same_state = refl })
 
   -- each object that is seen moves
-  each_moves : (own : Command) (after : Workspace) (change : ℕ → ObjectView → ObjectView) (moved : Session) → moved.view ≡ Some (each change view) → ((at : ℕ) (found : ObjectView) → (change at found).kind ≡ found.kind) → ((at : ℕ) (found : ObjectView) → object_of view at ≡ Some found → MovesOne own after at found (change at found)) → MovesTo own after moved
-  each_moves own after change moved is same one = record {
+  pub each_moves : (own : Command) (answer : Answer) (after : Workspace) (change : ℕ → ObjectView → ObjectView) (moved : Session) → is_refusal answer ≡ false → moves_view own ≡ true → moved.view ≡ Some (each change view) → moved.mode ≡ s.mode → ((at : ℕ) (found : ObjectView) → (change at found).kind ≡ found.kind) → ((at : ℕ) (found : ObjectView) → object_of view at ≡ Some found → MovesOne own after at found (change at found)) → MovesTurn own (record { answer = answer; session = moved; shared = after })
+  each_moves own answer after change moved done other is mode same one = inr (inr (record {
+    done = done;
+    other = other;
     view_after = each change view;
     attached = is;
+    mode_is = mode;
     kinds = kinds-each 0 change view.objects same;
     each = λ object found there. (change object found, object_in-each 0 change view.objects object object (omega arith) ∙ ap (option_map (change object)) there, one object found there);
-  }
+  }))
 
-  -- an object that stays
-  stays_one : (own : Command) (object : ℕ) (found : ObjectView) → read_after definitions object own found.private ≡ found.private → ((owned : Bool) (read staged : Body) → staged_after owned own read staged ≡ staged) → MovesOne own shared object found found
-  stays_one own object found reads stages = record {
-    reads = sym reads;
-    stages = sym (stages (is_at (owner_of shared.owners object) s.who) found.private found.staged);
-    generation = inl (record { none_added = refl; number = refl; body = refl });
-    keeps = λ own. own;
-    gains = inl;
-  }
-
-  -- ---- AW ATTACH
-
-  attach_moves : MovesTurn command.Attach (turn history_machine definitions names shared s command.Attach)
-  attach_moves =
-      subst (λ (those : Option ViewState). MovesTurn command.Attach (turn_from history_machine definitions names shared (elim those [ None ↦ (Ask (entry.Attach s.who), s) | Some view ↦ (Said (Refused already_attached), s) ]))) (sym attached) (unmoved command.Attach (λ object found is. refl) (λ owned read staged. refl))
-
-  -- ---- ACQUIRE
-
-  acquired_moves : (name : List ℕ) (object : ℕ) (found : ObjectView) → definition.object_of definitions name ≡ Some object → object_of view object ≡ Some found → MovesTurn (command.Acquire name) (turn_from history_machine definitions names shared (Ask (entry.Acquire s.who (generation_in s object ∷ []) [] []), s))
-  acquired_moves name object found place there =
-      acquire_turn definitions names sessions shared s fits own_place view attached (MovesTurn (command.Acquire name)) object found there (λ by is differs. quiet) (λ none behind. quiet) (λ may. grant)
-    where
-      quiet : MovesTo (command.Acquire name) shared s
-      quiet = unmoved (command.Acquire name) (λ object found is. refl) (λ owned read staged. refl)
-
-      after : Workspace
-      after = record shared { owners = taken shared.owners s.who (object ∷ []) }
-
-      owned_one : (at : ℕ) (one : ObjectView) (named : Bool) → (object == at) ≡ named → MovesOne (command.Acquire name) after at one (cond (named || false) (rule.owning one) one)
-      owned_one at one true is = record {
-        reads = refl;
-        stages = refl;
-        generation = inl (record { none_added = refl; number = refl; body = refl });
-        keeps = λ own. refl;
-        gains = λ own. inr (name, refl, place ∙ ap Some (eqb-true object at is));
-      }
-      owned_one at one false is = record {
-        reads = refl;
-        stages = refl;
-        generation = inl (record { none_added = refl; number = refl; body = refl });
-        keeps = λ own. own;
-        gains = inl;
-      }
-
-      grant : MovesTo (command.Acquire name) after (record s { view = option_map (λ (one : ViewState). rule.acquired one (object ∷ []) []) s.view })
-      grant =
-          each_moves (command.Acquire name) after (λ at one. rule.renewed (rule.latest_of [] at) (listed (rule.objects_of []) rule.owning at (listed (object ∷ []) rule.owning at one))) (record s { view = option_map (λ (one : ViewState). rule.acquired one (object ∷ []) []) s.view })
-          (ap (option_map (λ (one : ViewState). rule.acquired one (object ∷ []) [])) attached)
-          (λ at one. kind-cond ((object == at) || false) (rule.owning one) one refl)
-          (λ at one is. owned_one at one (object == at) refl)
-
-  acquire_moves : (name : List ℕ) → MovesTurn (command.Acquire name) (turn history_machine definitions names shared s (command.Acquire name))
-  acquire_moves name =
-      located-cases (λ r. MovesTurn (command.Acquire name) (turn_from history_machine definitions names shared (elim r [ Err refusal ↦ (Said (Refused refusal), s) | Ok object ↦ (Ask (entry.Acquire s.who (generation_in s object ∷ []) [] []), s) ]))) definitions s name
-      (λ refusal own. unmoved (command.Acquire name) (λ object found is. refl) (λ owned read staged. refl))
-      (λ object place it. acquired_moves name object it.found place (seen-here definitions names sessions shared s fits own_place view attached object it))
+  -- the session stays as it is
+  pub stays : (own : Command) (answer : Answer) → is_refusal answer ≡ false → moves_view own ≡ true → ((object : ℕ) (found : ObjectView) → object_of view object ≡ Some found → found ≡ seen_after definitions shared object own found) → MovesTurn own (record { answer = answer; session = s; shared = shared })
+  stays own answer done other same = inr (inr (record {
+    done = done;
+    other = other;
+    view_after = view;
+    attached = attached;
+    mode_is = refl;
+    kinds = refl;
+    each = λ object found there. (found, there, record { sees = same object found there; generation = inl (record { none_added = refl; number = refl; body = refl }) });
+  }))
 
   -- ---- an assignment
 
   module _ (name : List ℕ) (value : ℤ) where
-    abbrev own : Command
-    own = command.Assign name value
+    abbrev assigning : Command
+    assigning = command.Assign name value
 
-    abbrev AssignsBy : Result ℕ Refusal → Type 0
-    AssignsBy r = MovesTurn own (turn_from history_machine definitions names shared (elim r [ Err refusal ↦ (Said (Refused refusal), s) | Ok object ↦ (Said Done, with_cell s object (Int value)) ]))
-
-    read_there : (object : ℕ) (test : Bool) → assigns definitions object name ≡ test → (read : Body) → read_after definitions object own read ≡ (if test then holding value else read)
-    read_there object test is read = ap (λ (there : Bool). if there then holding value else read) is
-
-    -- what is refused is of no object that is seen
-    unassigned : (refusal : Refusal) → located_cell definitions s name ≡ Err refusal → MovesTo own shared s
-    unassigned refusal refused = unmoved own (λ object found there. by_test object found there (assigns definitions object name) refl) (λ owned read staged. refl)
-      where
-        by_test : (object : ℕ) (found : ObjectView) → object_of view object ≡ Some found → (test : Bool) → assigns definitions object name ≡ test → read_after definitions object own found.private ≡ found.private
-        by_test object found there false is = read_there object false is found.private
-        by_test object found there true is =
-            let parts = and_parts (is_at (definition.object_of definitions name) object) (is_single_at definitions object) is in
-            let seen_so = cell-seen definitions s name object (is_at-some (definition.object_of definitions name) object parts.0) parts.1 (sees-so definitions names sessions shared s fits own_place view attached object found there) in
-            never (sym refused ∙ seen_so)
-          where
-            never : {A : Type 0} → Err refusal ≡ Ok object → A
-            never is = cc
-
-    assigned_one : (object : ℕ) → definition.object_of definitions name ≡ Some object → is_single_at definitions object ≡ true → (at : ℕ) (found : ObjectView) → object_of view at ≡ Some found → (test : Bool) → (object == at) ≡ test → MovesOne own shared at found (cond test (rule.with_cells (one_cell value) found) found)
+    assigned_one : (object : ℕ) → definition.object_of definitions name ≡ Some object → is_single_at definitions object ≡ true → (at : ℕ) (found : ObjectView) → object_of view at ≡ Some found → (test : Bool) → (object == at) ≡ test → MovesOne assigning shared at found (cond test (rule.with_cells (one_cell value) found) found)
     assigned_one object place single at found there test is = by_test test is
       where
         assigns-so : (test : Bool) → (object == at) ≡ test → assigns definitions at name ≡ (test && is_single_at definitions at)
         assigns-so test is = ap (λ (found : Option ℕ). is_at found at && is_single_at definitions at) place ∙ ap (λ (b : Bool). b && is_single_at definitions at) is
 
-        by_test : (test : Bool) → (object == at) ≡ test → MovesOne own shared at found (cond test (rule.with_cells (one_cell value) found) found)
-        by_test false is = stays_one own at found (read_there at false (assigns-so false is) found.private) (λ owned read staged. refl)
+        after : Bool → ObjectView
+        after test = cond test (record found { private = holding value }) found
+
+        by_test : (test : Bool) → (object == at) ≡ test → MovesOne assigning shared at found (cond test (rule.with_cells (one_cell value) found) found)
+        by_test false is = record { sees = sym (ap after (assigns-so false is)); generation = inl (record { none_added = refl; number = refl; body = refl }) }
         by_test true is =
             let single_at : is_single_at definitions at ≡ true = sym (ap (is_single_at definitions) (eqb-true object at is)) ∙ single in
             let kept = subst (λ (those : List Def). object_in (kept_kinds those) at ≡ Some found.kind) fits.definitions_are (kept-kind definitions names sessions shared s fits own_place view attached at found there) in
             let kind = single-kind definitions at found.kind single_at kept in
             let holds = holding-applied found.private value (subst (λ (kind : DefKind). IsOf kind found.private) kind (good at found there).forms.private) in
             record {
-              reads = holds ∙ sym (read_there at true (assigns-so true is ∙ single_at) found.private);
-              stages = refl;
+              sees = ap (λ (body : Body). let o : ObjectView = record found { private = body } in o) holds ∙ sym (ap after (assigns-so true is ∙ single_at));
               generation = inl (record { none_added = refl; number = refl; body = refl });
-              keeps = λ own. own;
-              gains = inl;
             }
 
-    assign_moves : MovesTurn own (turn history_machine definitions names shared s own)
+    assign_moves : MovesTo assigning (turn (by_history coming) definitions names disk s assigning)
     assign_moves =
-        located_cell-cases (λ r. located_cell definitions s name ≡ r → AssignsBy r) definitions s name (λ refusal its refused. unassigned refusal refused)
-        (λ object place single it is. each_moves own shared (only object (rule.with_cells (one_cell value))) (with_cell s object (Int value)) (ap (option_map (λ (one : ViewState). rule.written one object (one_cell value))) attached) (λ at found. kind-cond (object == at) (rule.with_cells (one_cell value) found) found refl) (λ at found there. assigned_one object place single at found there (object == at) refl))
-        refl
-
-  -- ---- UPDATE
-
-  own_test : (object : ℕ) (found : ObjectView) → object_of view object ≡ Some found → is_at (owner_of shared.owners object) s.who ≡ found.owned
-  own_test object found there = ⊎_elim own not_own (cases_Bool found.owned)
-    where
-      owner : Option ℕ
-      owner = owner_of shared.owners object
-
-      it : seen.ObjectFits bodies shared.history shared.owners view.who object found
-      it = of_object definitions names sessions shared s fits own_place view attached object found there
-
-      number : view.who ≡ s.who
-      number = (fitting definitions names sessions shared s fits own_place view attached).number
-
-      own : found.owned ≡ true → is_at owner s.who ≡ found.owned
-      own is = ap (λ by. is_at by s.who) (it.owned.0 is ∙ ap Some number) ∙ eq-eqb s.who s.who refl ∙ sym is
-
-      not_own : found.owned ≡ false → is_at owner s.who ≡ found.owned
-      not_own is =
-          ⊎_elim (λ at. absurd (true≢false (sym (it.owned.1 (is_at-some owner s.who at ∙ ap Some (sym number))) ∙ is))) (λ none. none ∙ sym is) (cases_Bool (is_at owner s.who))
-
-  updated_one : (object : ℕ) (found : ObjectView) (named owned : Bool) → owned ≡ named → is_at (owner_of shared.owners object) s.who ≡ owned → MovesOne command.Update shared object found (cond named (rule.staging found) found)
-  updated_one object found true owned same is = record {
-    reads = refl;
-    stages = sym (ap (λ (own : Bool). if own then found.private else found.staged) (is ∙ same));
-    generation = inl (record { none_added = refl; number = refl; body = refl });
-    keeps = λ own. own;
-    gains = inl;
-  }
-  updated_one object found false owned same is = record {
-    reads = refl;
-    stages = sym (ap (λ (own : Bool). if own then found.private else found.staged) (is ∙ same));
-    generation = inl (record { none_added = refl; number = refl; body = refl });
-    keeps = λ own. own;
-    gains = inl;
-  }
-
-  updated_moves : MovesTo command.Update shared (record s { view = Some (rule.updated view (owned_objects view)) })
-  updated_moves =
-      each_moves command.Update shared (listed (owned_objects view) rule.staging) (record s { view = Some (rule.updated view (owned_objects view)) }) refl
-      (λ at found. kind-cond (is_named (owned_objects view) at) (rule.staging found) found refl)
-      (λ at found there. updated_one at found (is_named (owned_objects view) at) found.owned (sym (names-numbers is_owned 0 view.objects at at (omega arith) ∙ ap (passes is_owned) there)) (own_test at found there))
-
-  update_moves : MovesTurn command.Update (turn history_machine definitions names shared s command.Update)
-  update_moves =
-      subst (λ (those : Option ViewState). MovesTurn command.Update (turn_from history_machine definitions names shared (elim those [ None ↦ (Said (Refused not_attached), s) | Some view ↦ (Said Done, record s { view = Some (rule.updated view (owned_objects view)) }) ]))) (sym attached) updated_moves
-
-  -- ---- COMMIT
-
-  pub uncommitted : MovesTo command.Commit shared s
-  uncommitted = unmoved command.Commit (λ object found is. refl) (λ owned read staged. refl)
-
-  module _ (change : Change) (changes : List Change) (made : rule.changes view ≡ change ∷ changes) (unworn : first_worn (standing bodies shared) (rule.changes view) ≡ None) where
-    abbrev after : Workspace
-    after = committed definitions names sessions shared s fits own_place view attached (change ∷ changes)
-
-    -- the staged body is the base from now on
-    abbrev moved_on : ObjectView → ObjectView
-    moved_on found = record found { number = min (found.number + 1) 18446744073709551615; base = found.staged }
-
-    leaves : (found : ObjectView) → found.leaving ≡ false → rule.leaving_now found ≡ found
-    leaves found staying = ap (λ (b : Bool). cond b (rule.giving_up found) found) staying
-
-    unstaged-stays : (found : ObjectView) → rule.is_staged found ≡ false → found.leaving ≡ false → rule.after_commit found ≡ found
-    unstaged-stays found none staying =
-        ap (λ (b : Bool). cond found.owned (rule.leaving_now (cond b (moved_on found) found)) found) none ∙ ap (λ (left : ObjectView). cond found.owned left found) (leaves found staying) ∙ either found.owned
-      where
-        either : (b : Bool) → cond b found found ≡ found
-        either true = refl
-        either false = refl
-
-    staged-moves : (found : ObjectView) → found.owned ≡ true → rule.is_staged found ≡ true → found.leaving ≡ false → rule.after_commit found ≡ moved_on found
-    staged-moves found own staged staying =
-        ap (λ (b : Bool). cond b (rule.leaving_now (rule.committing found)) found) own ∙ ap (λ (b : Bool). rule.leaving_now (cond b (moved_on found) found)) staged ∙ leaves (moved_on found) staying
-
-    committed_one : (object : ℕ) (found : ObjectView) → object_of view object ≡ Some found → MovesOne command.Commit after object found (rule.after_commit found)
-    committed_one object found there =
-        ⊎_elim (λ none. still none.1) (λ tells. moves tells.2.0 tells.2.1) (told definitions names sessions shared s fits own_place view attached object found there)
-      where
-        its : IsGood found
-        its = good object found there
-
-        is_committed : IsCommitted shared after object found
-        is_committed = committed_so definitions names sessions shared s fits own_place view attached object found there change changes made
-
-        still : found.staged ≡ found.base → MovesOne command.Commit after object found (rule.after_commit found)
-        still same =
-            let none : rule.is_staged found ≡ false = ap (λ (body : Body). is_some (difference found.base body)) same ∙ difference-itself gives_newer found.kind found.base its.forms.base in
-            subst (MovesOne command.Commit after object found) (sym (unstaged-stays found none its.commits.staying)) (record {
-              reads = refl;
-              stages = refl;
-              generation = inl (record { none_added = is_committed.kept same; number = refl; body = refl });
-              keeps = λ own. own;
-              gains = inl;
-            })
-
-        moves : found.owned ≡ true → found.staged ≢ found.base → MovesOne command.Commit after object found (rule.after_commit found)
-        moves own differs =
-            let staged : rule.is_staged found ≡ true = difference-other gives_newer found.base found.staged its.forms.base.valid its.forms.staged.valid (alike found.kind found.base found.staged its.forms.base.form its.forms.staged.form) (λ same. differs (sym same)) in
-            let c = staged-changed shared s.who view (fitting definitions names sessions shared s fits own_place view attached) object found there own staged in
-            let small = number-small bodies shared (rule.changes view) object found.kind c.0 (kept-kind definitions names sessions shared s fits own_place view attached object found there) unworn c.1 in
-            let extended = is_committed.changed differs in
-            subst (MovesOne command.Commit after object found) (sym (staged-moves found own staged its.commits.staying)) (record {
-              reads = refl;
-              stages = refl;
-              generation = inr (record { by_commit = refl; extended = extended; has = record { number = omega (arith, extended.number, extended.had.number, small); body = sym extended.body } });
-              keeps = λ own. own;
-              gains = inl;
-            })
-
-    kind-after : (found : ObjectView) → (rule.after_commit found).kind ≡ found.kind
-    kind-after found =
-        kind-cond found.owned (rule.leaving_now (rule.committing found)) found (kind-cond (rule.committing found).leaving (rule.giving_up (rule.committing found)) (rule.committing found) refl ∙ kind-cond (rule.is_staged found) (moved_on found) found refl)
-
-    committed_moves : MovesTo command.Commit after (record s { view = option_map rule.committed s.view })
-    committed_moves =
-        each_moves command.Commit after (λ at found. rule.after_commit found) (record s { view = option_map rule.committed s.view }) (ap (option_map rule.committed) attached) (λ at found. kind-after found) committed_one
-
-  commit_by_changes : (changes : List Change) → rule.changes view ≡ changes → MovesTurn command.Commit (turn_from history_machine definitions names shared (commit_asked s changes))
-  commit_by_changes =
-      commit_turn definitions names sessions shared s fits own_place view attached (MovesTurn command.Commit) (λ none. uncommitted) (λ long. uncommitted) (λ object worn. uncommitted) committed_moves
-
-  commit_moves : MovesTurn command.Commit (turn history_machine definitions names shared s command.Commit)
-  commit_moves =
-      subst (λ (those : Option ViewState). MovesTurn command.Commit (turn_from history_machine definitions names shared (elim those [ None ↦ (Said (Refused not_attached), s) | Some those ↦ commit_asked s (rule.changes those) ]))) (sym attached) (commit_by_changes (rule.changes view) refl)
+        located_cell-cases (λ r. MovesTo assigning (turn_from (by_history coming) definitions names disk (kept_waiting assigning (elim r [ Err refusal ↦ (Said (Refused refusal), s) | Ok object ↦ (Said Done, with_cell s object (Int value)) ])))) definitions s name (λ refusal its. quiet assigning refusal)
+        (λ object place single it. each_moves assigning Done shared (only object (rule.with_cells (one_cell value))) (with_cell s object (Int value)) refl refl (ap (option_map (λ (one : ViewState). rule.written one object (one_cell value))) attached) refl (λ at found. kind-cond (object == at) (rule.with_cells (one_cell value) found) found refl) (λ at found there. assigned_one object place single at found there (object == at) refl))
 
   -- ---- SHOW
 
-  show_moves : (name : List ℕ) → MovesTurn (command.Show name) (turn history_machine definitions names shared s (command.Show name))
+  show_moves : (name : List ℕ) → MovesTo (command.Show name) (turn (by_history coming) definitions names disk s (command.Show name))
   show_moves name =
-      let quiet = unmoved (command.Show name) (λ object found is. refl) (λ owned read staged. refl) in
-      located_cell-cases (λ r. MovesTurn (command.Show name) (turn_from history_machine definitions names shared (elim r [ Err refusal ↦ (Said (Refused refusal), s) | Ok object ↦ (Said (Shown (cell_in s object)), s) ]))) definitions s name (λ refusal own. quiet) (λ object place single it. quiet)
+      let own : Command = command.Show name in
+      located_cell-cases (λ r. MovesTo own (turn_from (by_history coming) definitions names disk (kept_waiting own (elim r [ Err refusal ↦ (Said (Refused refusal), s) | Ok object ↦ (Said (Shown (cell_in s object)), s) ])))) definitions s name (λ refusal its. quiet own refusal)
+      (λ object place single it. stays own (Shown (cell_in s object)) refl refl (λ object found there. refl))
 
--- ---- on a disk
+  -- ---- a command of a session that is attached
 
--- a command that says its answer asks nothing
-said-plain : (coming : List Outcome) (definitions : List Def) (names : List (List ℕ)) (disk : HistoryDisk) (s : Session) (name : List ℕ) (b : ℕ → Begun × Session) → ((object : ℕ) → turn_from (by_history coming) definitions names disk (b object) ≡ unwritten_turn disk (turn_from history_machine definitions names disk.state (b object))) →
-    let r : Begun × Session = elim (located_cell definitions s name) [ Err refusal ↦ (Said (Refused refusal), s) | Ok object ↦ b object ] in
-    turn_from (by_history coming) definitions names disk r ≡ unwritten_turn disk (turn_from history_machine definitions names disk.state r)
-said-plain coming definitions names disk s name b plain =
-    located_cell-cases (λ r.
-    let it : Begun × Session = elim r [ Err refusal ↦ (Said (Refused refusal), s) | Ok object ↦ b object ] in
-    turn_from (by_history coming) definitions names disk it ≡ unwritten_turn disk (turn_from history_machine definitions names disk.state it)) definitions s name (λ refusal own. refl) (λ object place single it. plain object)
+  abbrev pub Begun_as : Command → Begun × Session → Type 0
+  Begun_as own b = MovesTo own (turn_from (by_history coming) definitions names disk (kept_waiting own b))
 
-module _ (coming : List Outcome) (definitions : List Def) (names : List (List ℕ)) (sessions : List Session) (disk : HistoryDisk) (s : Session) (fits : SharedFits definitions sessions disk.state) (own_place : slice_get sessions s.who ≡ Some s) (view : ViewState) (attached : s.view ≡ Some view) where
-  abbrev MovesOnDisk : Command → Turn HistoryDisk → Type 0
-  MovesOnDisk own t = Moves definitions own disk.state t.shared.state s view t.session
+  abbrev pub ByView : Command → Option ViewState → Type 0
+  ByView own those = Begun_as own (elim those [ None ↦ (Said (Refused not_attached), s) | Some one ↦ sharing s one own ])
 
-  pub moves_on_disk : (own : Command) → MovesOnDisk own (turn (by_history coming) definitions names disk s own)
-  moves_on_disk command.Attach =
-      subst (λ (those : Option ViewState). MovesOnDisk command.Attach (turn_from (by_history coming) definitions names disk (elim those [ None ↦ (Ask (entry.Attach s.who), s) | Some view ↦ (Said (Refused already_attached), s) ]))) (sym attached)
-      (unmoved definitions names sessions disk.state s fits own_place view attached command.Attach (λ object found is. refl) (λ owned read staged. refl))
-  moves_on_disk (command.Acquire name) =
-      subst (MovesOnDisk (command.Acquire name)) (sym (acquire-plain coming definitions names disk s name)) (acquire_moves definitions names sessions disk.state s fits own_place view attached name)
-  moves_on_disk (command.Assign name value) =
-      subst (MovesOnDisk (command.Assign name value)) (sym (said-plain coming definitions names disk s name (λ object. (Said Done, with_cell s object (Int value))) (λ object. refl))) (assign_moves definitions names sessions disk.state s fits own_place view attached name value)
-  moves_on_disk command.Update =
-      subst (λ (those : Option ViewState). MovesOnDisk command.Update (turn_from (by_history coming) definitions names disk (elim those [ None ↦ (Said (Refused not_attached), s) | Some view ↦ (Said Done, record s { view = Some (rule.updated view (owned_objects view)) }) ]))) (sym attached)
-      (updated_moves definitions names sessions disk.state s fits own_place view attached)
-  moves_on_disk command.Commit =
-      let plain = commit_moves definitions names sessions disk.state s fits own_place view attached in
-      turn-cases history_machine (among coming) definitions names disk s command.Commit (MovesOnDisk command.Commit) (λ none. plain) (λ asked writing. plain) (λ asked writing. uncommitted definitions names sessions disk.state s fits own_place view attached)
-  moves_on_disk (command.Show name) =
-      subst (MovesOnDisk (command.Show name)) (sym (said-plain coming definitions names disk s name (λ object. (Said (Shown (cell_in s object)), s)) (λ object. refl))) (show_moves definitions names sessions disk.state s fits own_place view attached name)
+  -- ---- ACQUIRE, RESYNC
+
+  kind-renewed : (one : Option Fresh) (found : ObjectView) → (rule.renewed one found).kind ≡ found.kind
+  kind-renewed None found = refl
+  kind-renewed (Some one) found = refl
+
+  module _ (keep fresh same : List ℕ) where
+    abbrev acquiring : Command
+    acquiring = command.Acquire keep fresh same
+
+    abbrev owners_after : Workspace
+    owners_after = record shared { owners = taken shared.owners s.who (taken_of (generations_in s keep) fresh) }
+
+    abbrev granted : List Fresh
+    granted = handed (standing bodies shared) fresh
+
+    abbrev kept_one : Bool → ObjectView → ObjectView
+    kept_one kept found = cond kept (rule.owning found) found
+
+    abbrev acquired_by : Option Fresh → Bool → Bool → ObjectView → ObjectView
+    acquired_by one named kept found = rule.renewed one (cond named (rule.owning (kept_one kept found)) (kept_one kept found))
+
+    acquires_one : (at : ℕ) (found : ObjectView) → object_of view at ≡ Some found → MovesOne acquiring owners_after at found (acquired_by (rule.latest_of granted at) (is_named (rule.objects_of granted) at) (is_named keep at) found)
+    acquires_one at found there =
+        subst (λ (named : Bool). MovesOne acquiring owners_after at found (acquired_by (rule.latest_of granted at) named (is_named keep at) found)) (sym (named-latest granted at))
+        (subst (λ (one : Option Fresh). MovesOne acquiring owners_after at found (acquired_by one (is_some one) (is_named keep at) found)) (sym (handed-at bodies shared fresh at (stands at found there))) (by_fresh (is_named fresh at) (is_named keep at) refl refl))
+      where
+        by_fresh : (named kept : Bool) → is_named fresh at ≡ named → is_named keep at ≡ kept → MovesOne acquiring owners_after at found (acquired_by (cond named (Some (latest shared at)) None) (is_some (cond named (Some (latest shared at)) None)) kept found)
+        by_fresh true true is keeps = record {
+          sees = sym (ap (λ (b : Bool). cond b (rule.with_latest (latest shared at) (rule.owning found)) (cond (is_named keep at) (rule.owning found) found)) is);
+          generation = inr (inl (record { asked = is; none_added = refl; has = record { number = refl; body = refl } }));
+        }
+        by_fresh true false is keeps = record {
+          sees = sym (ap (λ (b : Bool). cond b (rule.with_latest (latest shared at) (rule.owning found)) (cond (is_named keep at) (rule.owning found) found)) is);
+          generation = inr (inl (record { asked = is; none_added = refl; has = record { number = refl; body = refl } }));
+        }
+        by_fresh false true is keeps = record {
+          sees = sym (ap (λ (b : Bool). cond b (rule.with_latest (latest shared at) (rule.owning found)) (cond (is_named keep at) (rule.owning found) found)) is ∙ ap (λ (b : Bool). cond b (rule.owning found) found) keeps);
+          generation = inl (record { none_added = refl; number = refl; body = refl });
+        }
+        by_fresh false false is keeps = record {
+          sees = sym (ap (λ (b : Bool). cond b (rule.with_latest (latest shared at) (rule.owning found)) (cond (is_named keep at) (rule.owning found) found)) is ∙ ap (λ (b : Bool). cond b (rule.owning found) found) keeps);
+          generation = inl (record { none_added = refl; number = refl; body = refl });
+        }
+
+    acquire_moves : ByView acquiring (Some view)
+    acquire_moves =
+        acquire_turn definitions names sessions shared s fits own_place view attached (MovesTurn acquiring) keep fresh same
+        (λ object is. quiet acquiring (not_acquired (name_of definitions object)))
+        (λ object by is. quiet acquiring (owned_by (name_of definitions object) (name_at names by)))
+        (λ object number is. quiet acquiring (newer (name_of definitions object) number))
+        (λ none. each_moves acquiring Done owners_after (λ at found. acquired_by (rule.latest_of granted at) (is_named (rule.objects_of granted) at) (is_named keep at) found) (record s { view = option_map (λ (one : ViewState). rule.acquired one keep granted) s.view }) refl refl
+        (ap (option_map (λ (one : ViewState). rule.acquired one keep granted)) attached) refl
+        (λ at found. kind-renewed (rule.latest_of granted at) (cond (is_named (rule.objects_of granted) at) (rule.owning (kept_one (is_named keep at) found)) (kept_one (is_named keep at) found)) ∙ kind-cond (is_named (rule.objects_of granted) at) (rule.owning (kept_one (is_named keep at) found)) (kept_one (is_named keep at) found) refl ∙ kind-cond (is_named keep at) (rule.owning found) found refl)
+        acquires_one)
+
+  module _ (objects : List ℕ) where
+    abbrev resyncing : Command
+    resyncing = command.Resync objects
+
+    abbrev renewals : List Fresh
+    renewals = handed (standing bodies shared) objects
+
+    resyncs_one : (at : ℕ) (found : ObjectView) → object_of view at ≡ Some found → MovesOne resyncing shared at found (rule.renewed (rule.latest_of renewals at) found)
+    resyncs_one at found there =
+        subst (λ (one : Option Fresh). MovesOne resyncing shared at found (rule.renewed one found)) (sym (handed-at bodies shared objects at (stands at found there))) (by_named (is_named objects at) refl)
+      where
+        by_named : (named : Bool) → is_named objects at ≡ named → MovesOne resyncing shared at found (rule.renewed (cond named (Some (latest shared at)) None) found)
+        by_named true is = record {
+          sees = sym (ap (λ (b : Bool). cond b (rule.with_latest (latest shared at) found) found) is);
+          generation = inr (inl (record { asked = is; none_added = refl; has = record { number = refl; body = refl } }));
+        }
+        by_named false is = record {
+          sees = sym (ap (λ (b : Bool). cond b (rule.with_latest (latest shared at) found) found) is);
+          generation = inl (record { none_added = refl; number = refl; body = refl });
+        }
+
+    resync_moves : ByView resyncing (Some view)
+    resync_moves =
+        resync_turn definitions names sessions shared s fits own_place view attached (MovesTurn resyncing) objects (λ object. quiet resyncing (not_acquired (name_of definitions object)))
+        (λ none. each_moves resyncing Done shared (λ at found. rule.renewed (rule.latest_of renewals at) found) (record s { view = option_map (λ (one : ViewState). rule.resynced one renewals) s.view }) refl refl
+        (ap (option_map (λ (one : ViewState). rule.resynced one renewals)) attached) refl (λ at found. kind-renewed (rule.latest_of renewals at) found) resyncs_one)
+
+    -- ---- RELEASE
+
+    abbrev releasing : Command
+    releasing = command.Release objects
+
+    abbrev released_by : Bool → Bool → ObjectView → ObjectView
+    released_by named staged found = cond named (cond staged (record found { leaving = true }) (rule.giving_up found)) found
+
+    keeps-releasing : (after : Workspace) → ((at : ℕ) (found : ObjectView) → KeepsGeneration shared after at found found) → (at : ℕ) (found : ObjectView) (named staged : Bool) → KeepsGeneration shared after at found (released_by named staged found)
+    keeps-releasing after keeps at found true true = record { none_added = (keeps at found).none_added; number = refl; body = refl }
+    keeps-releasing after keeps at found true false = record { none_added = (keeps at found).none_added; number = refl; body = refl }
+    keeps-releasing after keeps at found false staged = keeps at found
+
+    releases_so : (after : Workspace) (moved : Session) → ((at : ℕ) (found : ObjectView) → KeepsGeneration shared after at found found) → moved.view ≡ Some (rule.released view objects) → moved.mode ≡ s.mode → MovesTurn releasing (record { answer = Done; session = moved; shared = after })
+    releases_so after moved keeps is mode =
+        each_moves releasing Done after (listed objects rule.releasing) moved refl refl is mode
+        (λ at found. kind-cond (is_named objects at) (rule.releasing found) found (kind-cond (rule.is_staged found) (record found { leaving = true }) (rule.giving_up found) refl))
+        (λ at found there. record { sees = refl; generation = inl (keeps-releasing after keeps at found (is_named objects at) (rule.is_staged found)) })
+
+    release_by : (unstaged : List ℕ) → Begun_as releasing (release_asked s view objects unstaged)
+    release_by [] = releases_so shared (record s { view = Some (rule.released view objects) }) (λ at found. record { none_added = refl; number = refl; body = refl }) refl refl
+    release_by (object ∷ unstaged) =
+        release_turn definitions names sessions shared s fits own_place view attached (MovesTurn releasing) objects (λ at. quiet releasing (not_acquired (name_of definitions at))) (object ∷ unstaged)
+        (λ none. releases_so (record shared { owners = given_up shared.owners s.who (object ∷ unstaged) }) (record s { view = option_map (λ (one : ViewState). rule.released one objects) s.view }) (λ at found. record { none_added = refl; number = refl; body = refl }) (ap (option_map (λ (one : ViewState). rule.released one objects)) attached) refl)
+
+    release_moves : ByView releasing (Some view)
+    release_moves = release_by (unstaged_in view objects)
+
+    -- ---- REVERT, UPDATE
+
+    abbrev reverting : Command
+    reverting = command.Revert objects
+
+    keeps-cond : (b : Bool) (at : ℕ) (found changed : ObjectView) → changed.number ≡ found.number → changed.base ≡ found.base → KeepsGeneration shared shared at found (cond b changed found)
+    keeps-cond true at found changed number body = record { none_added = refl; number = number; body = body }
+    keeps-cond false at found changed number body = record { none_added = refl; number = refl; body = refl }
+
+    revert_moves : ByView reverting (Some view)
+    revert_moves =
+        each_moves reverting Done shared (listed (or_all (seen_objects view) objects) rule.reverting) (record s { view = Some (rule.reverted view (or_all (seen_objects view) objects)) }) refl refl refl refl
+        (λ at found. kind-cond (is_named (or_all (seen_objects view) objects) at) (rule.reverting found) found refl)
+        (λ at found there. record { sees = ap (λ (b : Bool). cond b (rule.reverting found) found) (covered objects at found there); generation = inl (keeps-cond (is_named (or_all (seen_objects view) objects) at) at found (rule.reverting found) refl refl) })
+      where
+        covered : (those : List ℕ) (at : ℕ) (found : ObjectView) → object_of view at ≡ Some found → is_named (or_all (seen_objects view) those) at ≡ covers those at
+        covered [] at found there = names-numbers (λ (one : ObjectView). true) 0 view.objects at at (omega arith) ∙ ap (passes (λ (one : ObjectView). true)) there
+        covered (first ∷ those) at found there = refl
+
+    abbrev updating : Command
+    updating = command.Update objects
+
+    update_moves : AreOwned view objects → ByView updating (Some view)
+    update_moves owned =
+        each_moves updating Done shared (listed (or_all (owned_objects view) objects) rule.staging) (record s { view = Some (rule.updated view (or_all (owned_objects view) objects)) }) refl refl refl refl
+        (λ at found. kind-cond (is_named (or_all (owned_objects view) objects) at) (rule.staging found) found refl)
+        (λ at found there. record { sees = ap (λ (b : Bool). cond b (rule.staging found) found) (covered objects owned at found there); generation = inl (keeps-cond (is_named (or_all (owned_objects view) objects) at) at found (rule.staging found) refl refl) })
+      where
+        named-owned : (those : List ℕ) → AreOwned view those → (at : ℕ) (found : ObjectView) → object_of view at ≡ Some found → (named : Bool) → is_named those at ≡ named → named ≡ (found.owned && named)
+        named-owned those owned at found there true is = sym (ap (λ (b : Bool). b && true) (some-and (λ (one : ObjectView). one.owned ≡ true) (object_of view at) found there (owned-named view those at owned is)))
+        named-owned those owned at found there false is = sym (and-false found.owned)
+
+        covered : (those : List ℕ) → AreOwned view those → (at : ℕ) (found : ObjectView) → object_of view at ≡ Some found → is_named (or_all (owned_objects view) those) at ≡ (found.owned && covers those at)
+        covered [] owned at found there = names-numbers is_owned 0 view.objects at at (omega arith) ∙ ap (passes is_owned) there ∙ sym (and-true found.owned)
+        covered (first ∷ those) owned at found there = named-owned (first ∷ those) owned at found there (is_named (first ∷ those) at) refl
+
+  -- ---- AW DETACH
+
+  detach_moves : ByView command.Detach (Some view)
+  detach_moves = inr (inl (record {
+    by_detach = refl;
+    done = refl;
+    detached = refl;
+    owners = λ object. owner_of-all_given_up shared.owners s.who object ∙ given-up (owner_of shared.owners object) s.who;
+    history = refl;
+  }))
+
+  -- ---- all but COMMIT
+
+  attach_moves : (mode : Mode) → MovesTo (command.Attach mode) (turn (by_history coming) definitions names disk s (command.Attach mode))
+  attach_moves mode =
+      subst (λ (those : Option ViewState). Begun_as (command.Attach mode) (elim those [ None ↦ (Ask (entry.Attach s.who), s) | Some one ↦ (Said (Refused already_attached), s) ])) (sym attached) (quiet (command.Attach mode) already_attached)
+
+  -- ---- COMMIT
+
+  -- what is staged is the base from now on
+  abbrev moved_on : ObjectView → ObjectView
+  moved_on found = record found { number = min (found.number + 1) 18446744073709551615; base = found.staged }
+
+  unstaged : (found : ObjectView) → IsGood found → found.staged ≡ found.base → rule.is_staged found ≡ false
+  unstaged found its same = ap (λ (body : Body). is_some (difference found.base body)) same ∙ difference-itself gives_newer found.kind found.base its.forms.base
+
+  -- where nothing is staged
+  as-unstaged : (found : ObjectView) → rule.is_staged found ≡ false → rule.after_commit found ≡ cond found.owned (rule.leaving_now found) found
+  as-unstaged found none = ap (λ (b : Bool). cond found.owned (rule.leaving_now (cond b (moved_on found) found)) found) none
+
+  as-staged : (found : ObjectView) → found.owned ≡ true → rule.is_staged found ≡ true → rule.after_commit found ≡ rule.leaving_now (moved_on found)
+  as-staged found own staged =
+      ap (λ (b : Bool). cond b (rule.leaving_now (rule.committing found)) found) own ∙ ap (λ (b : Bool). rule.leaving_now (cond b (moved_on found) found)) staged
+
+  nothing-moves : (found : ObjectView) → rule.is_staged found ≡ false → found.leaving ≡ false → found ≡ rule.after_commit found
+  nothing-moves found none staying =
+      sym (as-unstaged found none ∙ ap (λ (b : Bool). cond found.owned (cond b (rule.giving_up found) found) found) staying ∙ either found.owned)
+    where
+      either : (b : Bool) → cond b found found ≡ found
+      either true = refl
+      either false = refl
+
+  abbrev committed_state : Workspace
+  committed_state = committed definitions names sessions shared s fits own_place view attached
+
+  uncommitted : rule.changes view ≡ [] → leaving view ≡ [] → (object : ℕ) (found : ObjectView) → object_of view object ≡ Some found → found ≡ rule.after_commit found
+  uncommitted none_made none_leaves object found there =
+      let its = good object found there in
+      let same : found.staged ≡ found.base = ⊎_elim (λ none. none.1) (λ tells. never tells.0 (ap (change_of bodies object) (sym none_made) ∙ tells.1)) (told definitions names sessions shared s fits own_place view attached object found there) in
+      nothing-moves found (unstaged found its same)
+      (sym (names-numbers (λ (one : ObjectView). one.leaving) 0 view.objects object object (omega arith) ∙ ap (passes (λ (one : ObjectView). one.leaving)) there)
+      ∙ ap (λ (those : List ℕ). is_named those object) (sym (leaving-are shared s.who view (fitting definitions names sessions shared s fits own_place view attached)) ∙ none_leaves))
+    where
+      never : {A : Type 0} (c : Change) → None ≡ Some c → A
+      never c is = cc
+
+  committed_one : first_worn (standing bodies shared) (rule.changes view) ≡ None → (object : ℕ) (found : ObjectView) → object_of view object ≡ Some found → MovesOne command.Commit committed_state object found (rule.after_commit found)
+  committed_one unworn object found there = record {
+    sees = refl;
+    generation = ⊎_elim (λ none. inl (still none.1)) (λ tells. inr (inr (moves tells.2.0 tells.2.1))) (told definitions names sessions shared s fits own_place view attached object found there);
+  }
+    where
+      its : IsGood found
+      its = good object found there
+
+      is_committed : IsCommitted shared committed_state object found
+      is_committed = committed_so definitions names sessions shared s fits own_place view attached object found there committed_state.owners (rule.changes view) refl
+
+      number-as : (own leaves : Bool) → (cond own (cond leaves (rule.giving_up found) found) found).number ≡ found.number
+      number-as true true = refl
+      number-as true false = refl
+      number-as false leaves = refl
+
+      base-as : (own leaves : Bool) → (cond own (cond leaves (rule.giving_up found) found) found).base ≡ found.base
+      base-as true true = refl
+      base-as true false = refl
+      base-as false leaves = refl
+
+      still : found.staged ≡ found.base → KeepsGeneration shared committed_state object found (rule.after_commit found)
+      still same =
+          subst (KeepsGeneration shared committed_state object found) (sym (as-unstaged found (unstaged found its same)))
+          (record { none_added = is_committed.kept same; number = number-as found.owned found.leaving; body = base-as found.owned found.leaving })
+
+      moves : found.owned ≡ true → found.staged ≢ found.base → AddsGeneration command.Commit shared committed_state object found (rule.after_commit found)
+      moves own differs =
+          let staged : rule.is_staged found ≡ true = difference-other gives_newer found.base found.staged its.forms.base.valid its.forms.staged.valid (alike found.kind found.base found.staged its.forms.base.form its.forms.staged.form) (λ same. differs (sym same)) in
+          let c = staged-changed shared s.who view (fitting definitions names sessions shared s fits own_place view attached) object found there own staged in
+          let small = number-small bodies shared (rule.changes view) object found.kind c.0 (kept-kind definitions names sessions shared s fits own_place view attached object found there) unworn c.1 in
+          let extended = is_committed.changed differs in
+          let has : HasLatest committed_state object (moved_on found) = record { number = omega (arith, extended.number, extended.had.number, small); body = sym extended.body } in
+          subst (AddsGeneration command.Commit shared committed_state object found) (sym (as-staged found own staged)) (record { by_commit = refl; extended = extended; has = whether found.leaving has })
+        where
+          whether : (leaves : Bool) → HasLatest committed_state object (moved_on found) → HasLatest committed_state object (cond leaves (rule.giving_up (moved_on found)) (moved_on found))
+          whether true has = record { number = has.number; body = has.body }
+          whether false has = has
+
+  kind-after : (found : ObjectView) → (rule.after_commit found).kind ≡ found.kind
+  kind-after found =
+      kind-cond found.owned (rule.leaving_now (rule.committing found)) found (kind-cond (rule.committing found).leaving (rule.giving_up (rule.committing found)) (rule.committing found) refl ∙ kind-cond (rule.is_staged found) (moved_on found) found refl)
+
+  commit_plain : MovesTurn command.Commit (turn history_machine definitions names shared s command.Commit)
+  commit_plain =
+      subst (λ (those : Option ViewState). MovesTurn command.Commit (turn_from history_machine definitions names shared (kept_waiting command.Commit (elim those [ None ↦ (Said (Refused not_attached), s) | Some one ↦ sharing s one command.Commit ])))) (sym attached)
+      (commit_turn definitions names sessions shared s fits own_place view attached (MovesTurn command.Commit)
+      (λ none_made none_leaves. stays command.Commit Done refl refl (uncommitted none_made none_leaves))
+      (λ many. quiet command.Commit too_large)
+      (λ object worn. quiet command.Commit (full (name_of definitions object)))
+      (λ unworn. each_moves command.Commit Done committed_state (λ at found. rule.after_commit found) (record s { view = option_map rule.committed s.view }) refl refl (ap (option_map rule.committed) attached) refl (λ at found. kind-after found) (committed_one unworn)))
+
+  -- what holds of a turn holds of one with the same answer, session and state
+  same-moves : (own : Command) (one other : Turn HistoryDisk) → one.answer ≡ other.answer → one.session ≡ other.session → one.shared.state ≡ other.shared.state → MovesTo own one → MovesTo own other
+  same-moves own one other answer session state moves =
+      let P : Answer → Session → Workspace → Type 0 = λ a its w. MovesTo own (record { answer = a; session = its; shared = record other.shared { state = w } }) in
+      subst (λ (a : Answer). P a other.session other.shared.state) answer (subst (λ (its : Session). P one.answer its other.shared.state) session (subst (λ (w : Workspace). P one.answer one.session w) state (again moves)))
+    where
+      again : MovesTo own one → MovesTo own (record { answer = one.answer; session = one.session; shared = record other.shared { state = one.shared.state } })
+      again moves =
+          ⊎_elim (λ it. inl (record { refused = it.refused; same_session = it.same_session; same_state = it.same_state })) (λ rest. ⊎_elim (λ it. inr (inl (record { by_detach = it.by_detach; done = it.done; detached = it.detached; owners = it.owners; history = it.history })))
+          (λ it. inr (inr (record { done = it.done; other = it.other; view_after = it.view_after; attached = it.attached; mode_is = it.mode_is; kinds = it.kinds; each = it.each }))) rest) moves
+
+  commit_moves : MovesTo command.Commit (turn (by_history coming) definitions names disk s command.Commit)
+  commit_moves =
+      turn-cases history_machine (among coming) definitions names disk s command.Commit (MovesTo command.Commit) (λ none. commit_plain) (λ asked writing. same-moves command.Commit (unwritten_turn disk (turn history_machine definitions names disk.state s command.Commit)) (done_turn disk (turn history_machine definitions names disk.state s command.Commit) asked) refl refl refl commit_plain)
+      (λ asked writing. inl (record { refused = refl; same_session = refl; same_state = refl }))
+
+  -- ---- all commands
+
+  of_view : (own : Command) → ByView own (Some view) → ByView own s.view
+  of_view own moves = subst (ByView own) (sym attached) moves
+
+  pub moves_on_disk : (own : Command) → IsReady s own → MovesTo own (turn (by_history coming) definitions names disk s own)
+  moves_on_disk (command.Attach mode) ready = attach_moves mode
+  moves_on_disk command.Detach ready = of_view command.Detach detach_moves
+  moves_on_disk (command.Acquire keep fresh same) ready = of_view (command.Acquire keep fresh same) (acquire_moves keep fresh same)
+  moves_on_disk (command.Resync objects) ready = of_view (command.Resync objects) (resync_moves objects)
+  moves_on_disk (command.Release objects) ready = of_view (command.Release objects) (release_moves objects)
+  moves_on_disk (command.Revert objects) ready = of_view (command.Revert objects) (revert_moves objects)
+  moves_on_disk (command.Update objects) ready = of_view (command.Update objects) (update_moves objects (if-some (λ (one : ViewState). AreOwned one objects) s.view view attached ready))
+  moves_on_disk command.Commit ready = commit_moves
+  moves_on_disk (command.Assign name value) ready = assign_moves name value
+  moves_on_disk (command.Show name) ready = show_moves name
 
   -- ---- SHOW
 
@@ -450,34 +554,79 @@ module _ (coming : List Outcome) (definitions : List Def) (names : List (List �
       ∙ ap (λ (seen : Option ObjectView). elim seen as (λ _. Cell) [ None ↦ Na | Some one ↦ rule.reached_by view one.kind (rule.cell_in one.private []) ]) there
       ∙ ap (λ (kind : DefKind). rule.reached_by view kind (rule.cell_in found.private [])) kind
 
-  shows : (name : List ℕ) (object : ℕ) → NamesSingle definitions name object → IsShown disk s view object (turn (by_history coming) definitions names disk s (command.Show name))
+  pub shows : (name : List ℕ) (object : ℕ) → NamesSingle definitions name object → IsShown disk s view object (turn (by_history coming) definitions names disk s (command.Show name))
   shows name object named =
       let it = single-seen definitions names sessions disk s fits own_place view attached object named.1 in
       let kept = subst (λ (those : List Def). object_in (kept_kinds those) object ≡ Some it.0.kind) fits.definitions_are (kept-kind definitions names sessions disk.state s fits own_place view attached object it.0 it.1) in
-      subst (λ (r : Result ℕ Refusal). IsShown disk s view object (turn_from (by_history coming) definitions names disk (elim r [ Err refusal ↦ (Said (Refused refusal), s) | Ok object ↦ (Said (Shown (cell_in s object)), s) ])))
+      subst (λ (r : Result ℕ Refusal). IsShown disk s view object (turn_from (by_history coming) definitions names disk (kept_waiting (command.Show name) (elim r [ Err refusal ↦ (Said (Refused refusal), s) | Ok object ↦ (Said (Shown (cell_in s object)), s) ]))))
       (sym (cell-seen definitions s name object named.0 named.1 (sees-so definitions names sessions disk.state s fits own_place view attached object it.0 it.1)))
       (record { found = it.0; seen = it.1; answer = ap Shown (cell-shown object it.0 it.1 (single-kind definitions object it.0.kind named.1 kept)); same_session = refl; same_shared = refl })
 
--- a session that isn't attached stays so and as it was, but for an AW ATTACH
+-- ---- AW ATTACH
+
+-- a session that attaches sees each kept object so
+attached-each : (w : Workspace) (who object : ℕ) → object_of (rule.attached who w.definitions (given w)) object ≡ first_seen w object
+attached-each w who object = by_found (object_of those object) refl
+  where
+    those : ViewState
+    those = rule.attached who w.definitions (given w)
+
+    by_kind : object_of those object ≡ None → (kind : Option DefKind) → object_in (kept_kinds w.definitions) object ≡ kind → None ≡ first_seen w object
+    by_kind none None is = sym (ap (option_map (λ (kind : DefKind). rule.seen kind (latest w object))) is)
+    by_kind none (Some kind) is =
+        let it = kept-seen w.definitions those object kind (attached-kinds w who) is in
+        absurd (none-some it.0 (sym none ∙ it.1))
+
+    by_found : (found : Option ObjectView) → object_of those object ≡ found → found ≡ first_seen w object
+    by_found None none = by_kind none (object_in (kept_kinds w.definitions) object) refl
+    by_found (Some found) there =
+        let it = seen-latest w who object found there in
+        let kind : found.kind ≡ it.0 = ap (λ (one : ObjectView). one.kind) it.1 in
+        ap Some it.1 ∙ sym (ap (option_map (λ (kind : DefKind). rule.seen kind (latest w object))) (seen-kept w.definitions those object found (attached-kinds w who) there ∙ ap Some kind))
+
+pub attach_gives_latest : (coming : List Outcome) → AttachGivesLatest coming
+attach_gives_latest coming names disk s mode unattached =
+    let definitions = disk.state.definitions in
+    let own : Command = command.Attach mode in
+    subst (λ (those : Option ViewState). Attaches disk mode (turn_from (by_history coming) definitions names disk (kept_waiting own (elim those [ None ↦ (Ask (entry.Attach s.who), s) | Some view ↦ (Said (Refused already_attached), s) ])))) (sym unattached) (record {
+      answer = refl;
+      shared = refl;
+      mode_is = refl;
+      view = rule.attached s.who definitions (given disk.state);
+      attached = refl;
+      kinds = attached-kinds disk.state s.who;
+      each = attached-each disk.state s.who;
+    })
+
+-- ---- a session that isn't attached
+
+-- it is refused and stays as it was, but for an AW ATTACH
 module _ (coming : List Outcome) (definitions : List Def) (names : List (List ℕ)) (disk : HistoryDisk) (s : Session) (detached : s.view ≡ None) where
-  abbrev Stays : Begun × Session → Type 0
-  Stays b = (turn_from (by_history coming) definitions names disk b).session ≡ s
+  abbrev IsRefusedTurn : Turn HistoryDisk → Type 0
+  IsRefusedTurn t = (is_refusal t.answer ≡ true) × (t.session ≡ s)
+
+  abbrev Stays : Command → Begun × Session → Type 0
+  Stays own b = IsRefusedTurn (turn_from (by_history coming) definitions names disk (kept_waiting own b))
 
   unseen : {A : Type 0} (object : ℕ) → Sees s object → A
   unseen object it = absurd (none-some it.view (sym detached ∙ it.attached))
 
-  pub stays_detached : (own : Command) → (own ≡ command.Attach) ⊎ ((turn (by_history coming) definitions names disk s own).session ≡ s)
-  stays_detached command.Attach = inl refl
-  stays_detached (command.Acquire name) =
-      inr (located-cases (λ r. Stays (elim r [ Err refusal ↦ (Said (Refused refusal), s) | Ok object ↦ (Ask (entry.Acquire s.who (generation_in s object ∷ []) [] []), s) ])) definitions s name (λ refusal own. refl) (λ object place it. unseen object it))
+  stays-shared : (own : Command) → Stays own (elim s.view [ None ↦ (Said (Refused not_attached), s) | Some one ↦ sharing s one own ])
+  stays-shared own = subst (λ (those : Option ViewState). Stays own (elim those [ None ↦ (Said (Refused not_attached), s) | Some one ↦ sharing s one own ])) (sym detached) (refl, refl)
+
+  pub stays_detached : (own : Command) → ((mode : Mode) × (own ≡ command.Attach mode)) ⊎ IsRefusedTurn (turn (by_history coming) definitions names disk s own)
+  stays_detached (command.Attach mode) = inl (mode, refl)
+  stays_detached command.Detach = inr (stays-shared command.Detach)
+  stays_detached (command.Acquire keep fresh same) = inr (stays-shared (command.Acquire keep fresh same))
+  stays_detached (command.Resync objects) = inr (stays-shared (command.Resync objects))
+  stays_detached (command.Release objects) = inr (stays-shared (command.Release objects))
+  stays_detached (command.Revert objects) = inr (stays-shared (command.Revert objects))
+  stays_detached (command.Update objects) = inr (stays-shared (command.Update objects))
+  stays_detached command.Commit = inr (stays-shared command.Commit)
   stays_detached (command.Assign name value) =
-      inr (located_cell-cases (λ r. Stays (elim r [ Err refusal ↦ (Said (Refused refusal), s) | Ok object ↦ (Said Done, with_cell s object (Int value)) ])) definitions s name (λ refusal own. refl) (λ object place single it. unseen object it))
-  stays_detached command.Update =
-      inr (subst (λ (those : Option ViewState). Stays (elim those [ None ↦ (Said (Refused not_attached), s) | Some view ↦ (Said Done, record s { view = Some (rule.updated view (owned_objects view)) }) ])) (sym detached) refl)
-  stays_detached command.Commit =
-      inr (subst (λ (those : Option ViewState). Stays (elim those [ None ↦ (Said (Refused not_attached), s) | Some those ↦ commit_asked s (rule.changes those) ])) (sym detached) refl)
+      inr (located_cell-cases (λ r. Stays (command.Assign name value) (elim r [ Err refusal ↦ (Said (Refused refusal), s) | Ok object ↦ (Said Done, with_cell s object (Int value)) ])) definitions s name (λ refusal own. (refl, refl)) (λ object place single it. unseen object it))
   stays_detached (command.Show name) =
-      inr (located_cell-cases (λ r. Stays (elim r [ Err refusal ↦ (Said (Refused refusal), s) | Ok object ↦ (Said (Shown (cell_in s object)), s) ])) definitions s name (λ refusal own. refl) (λ object place single it. unseen object it))
+      inr (located_cell-cases (λ r. Stays (command.Show name) (elim r [ Err refusal ↦ (Said (Refused refusal), s) | Ok object ↦ (Said (Shown (cell_in s object)), s) ])) definitions s name (λ refusal own. (refl, refl)) (λ object place single it. unseen object it))
 
 -- ---- after any lines
 

@@ -1,36 +1,45 @@
--- An attached session reads what was the latest generation when it attached, and behind that what its own lines assigned.
-use Rattle.std.specs.Prelude.{◌≡◌, ◌≢◌, ◌<◌, ◌++◌, ◌⊎◌, ℕ, zero, suc, Bool, List, [], ◌∷◌, ◌+◌, length, Option, Some, None, slice_get, slice_index_or, slice_set, if◌then◌else◌, refl}
-use Rattle.std.specs.Option.{ForSome}
-use Rattle.std.proofs.Common.{◌∙◌, ap, ap₂, length-append, sym, subst, subst₂, inl, inr, ⊎_elim, arith, append-nil, append_assoc}
-use Rattle.std.proofs.lemmas.Bool.{eq-eqb, ne_eqb, cases_eq}
-use Rattle.std.proofs.lemmas.Option.{none-some, same_Some, slice_get_within, slice_get-get_or}
+-- What a session sees of an object is what its own lines gave it, and one that attached for reading alone owns nothing.
+use Rattle.std.specs.Prelude.{◌≡◌, ◌≢◌, ◌<◌, ◌++◌, ◌&&◌, ◌==◌, ℕ, zero, suc, Bool, true, false, not, cond, List, [], ◌∷◌, ◌+◌, length, Option, Some, None, IsSome, slice_get, slice_index_or, slice_set, refl}
+use Rattle.std.specs.Option.{ForSome, option_map, option_and_then}
+use Rattle.std.proofs.Common.{◌∙◌, ap, ap₂, length-append, sym, subst, subst₂, ⊎_elim, arith, append-nil, append_assoc}
+use Rattle.std.proofs.lemmas.Bool.{eq-eqb, ne_eqb, cases_eq, true≢false}
+use Rattle.std.proofs.lemmas.Option.{none-some, same_Some, slice_get-get_or}
 use Rattle.aw_schema.specs.declared.definition.Def.{Def}
-use Rattle.aw_body.specs.declared.body.Body.{Body}
+use Rattle.aw_body.specs.Owners.{owner_of}
+use Rattle.aw_body.specs.KeptBodies.{bodies_of}
 use Rattle.aw_codec.specs.declared.record.Decoded.{Decoded}
-use Rattle.mv_view.specs.ViewState.{ObjectView, ViewState, object_of, kinds_of}
+use Rattle.dml_tree.specs.declared.statement.Mode.{Mode}
+use Rattle.mv_core.specs.Workspace.{Workspace}
+use Rattle.mv_view.specs.Each.{object_in}
+use Rattle.mv_view.specs.Fit as fit
+use Rattle.mv_view.specs.ViewState.{ObjectView, ViewState, object_of, kept_kinds}
+use Rattle.ses_step.specs.declared.answer.Answer.{Answer}
+use Rattle.ses_step.specs.declared.answer.Answer.TheVariants as answer
 use Rattle.ses_step.specs.declared.command.Asked.{Asked}
 use Rattle.ses_step.specs.declared.command.Asked.TheVariants.{Runs, Refused}
 use Rattle.ses_step.specs.declared.command.Command.{Command}
 use Rattle.ses_step.specs.declared.command.Command.TheVariants as command
 use Rattle.ses_step.specs.declared.session.Known.{Known as Session}
+use Rattle.ses_step.specs.Answers.{answer_of}
 use Rattle.ses_step.specs.SessionLines.{asked}
-use Rattle.ses_step.specs.Sessions.{new_session}
-use Rattle.script_world.specs.Worlds.{Event, Answered, session_of, silent, refused_so, with_definitions, with_session, own_session, begun_so, commanded, shared_of, closed, settled, answered, world_after}
+use Rattle.ses_step.specs.Sessions.{new_session, seen_in, IsReady}
+use Rattle.script_world.specs.Worlds.{Event, Answered, session_of, silent, with_definitions, with_session, own_session, begun_so, commanded, shared_of, closed, settled, answered, world_after, is_refused}
 use Rattle.script_world.specs.Outcomes.{Outcome, among}
 use Rattle.script_world.proofs.callers.Appending.{world_after-append}
 use Rattle.script_world.proofs.callers.Moves.{MayTurn}
 use Rattle.script_world.proofs.callers.Walk.{Rests, walk}
-use Rattle.script_meaning.specs.Fit.{SharedFits}
-use Rattle.script_meaning.specs.Generations.{latest_body}
+use Rattle.script_meaning.specs.Fit.{SharedFits, ViewFits}
 use Rattle.script_meaning.specs.Language.{language, Written, begin_asked, HistoryDisk, HistoryWorld, by_history}
 use Rattle.aw_store.specs.StoredRecords.{CanBeOpened}
-use Rattle.script_meaning.specs.SnapshotReads.{IsFresh, Attaches, read_after, Moves, read_by, read_on, IsRead, ReadItsOwn}
+use Rattle.script_meaning.specs.SnapshotReads.{first_seen, Attaches, seen_after, is_refusal, moves_view, HasDetached, HasMoved, seen_now, seen_by, seen_on, seen_at, SeesItsOwn, KeepsOwned}
 use Rattle.script_meaning.specs.Transcript.{opening, world_at}
 use Rattle.script_meaning.specs.Turns.{with_turn, Turn, turn, asked_under, asked_of}
-use Rattle.script_world.proofs.callers.Elements.{slice_get-set_other, slice_get-set_cases, slice_get-append, slice_get-push_cases}
-use Rattle.script_meaning.proofs.KeptKinds.{if-some, seen-before}
-use Rattle.script_meaning.proofs.ReachableWorlds.{WorldStands, taken_up-stands, opening_sessions, world_fits, always_stands, always_fits}
+use Rattle.script_world.proofs.callers.Elements.{slice_get-set_other}
+use Rattle.script_meaning.proofs.KeptKinds.{if-some, kept-seen, seen-before}
+use Rattle.script_meaning.proofs.ReachableWorlds.{WorldStands, taken_up-stands, opening_sessions, world_fits, always_stands, always_fits, fits_at}
+use Rattle.script_meaning.proofs.ReadyLines.{IsReadyFor, asked-ready}
 use Rattle.script_meaning.proofs.SnapshotReads.{attach_gives_latest, stays_detached, moves_on_disk}
+use Rattle.script_meaning.proofs.TurnCases.{some-kind}
 use Rattle.script_meaning.proofs.callers.TakingTurns.{commanded-turn}
 
 slice_get-set_same : {X : Type 0} (xs : List X) (i : ℕ) (x y : X) → slice_get xs i ≡ Some x → slice_get (slice_set xs i y) i ≡ Some y
@@ -46,19 +55,32 @@ by_events P none more events = from [] none events
     from passed it [] = subst P (sym (append-nil passed)) it
     from passed it (event ∷ events) = subst P (append_assoc passed (event ∷ []) events) (from (passed ++ event ∷ []) (more passed event it) events)
 
-read_on-push : (coming : List Outcome) (who object : ℕ) (w : HistoryWorld) (events : List Event) (event : Event) (read : Body) →
+seen_on-push : (coming : List Outcome) (who object : ℕ) (w : HistoryWorld) (events : List Event) (event : Event) (seen : Option ObjectView) →
     let last = world_after (by_history coming) w events in
-    read_on coming who object w (events ++ event ∷ []) read ≡ read_by last.definitions who object (asked_of last event) (read_on coming who object w events read)
-read_on-push coming who object w [] event read = refl
-read_on-push coming who object w (one ∷ events) event read =
-    read_on-push coming who object (answered (by_history coming) w one).world events event (read_by w.definitions who object (asked_of w one) read)
+    let a = answered (by_history coming) last event in
+    seen_on coming who object w (events ++ event ∷ []) seen ≡ seen_by last.definitions a.world.shared who object (asked_of last event) (is_refused a.answer) (seen_on coming who object w events seen)
+seen_on-push coming who object w [] event seen = refl
+seen_on-push coming who object w (one ∷ events) event seen =
+    let a = answered (by_history coming) w one in
+    seen_on-push coming who object a.world events event (seen_by w.definitions a.world.shared who object (asked_of w one) (is_refused a.answer) seen)
+
+and-false : (b : Bool) → (b && false) ≡ false
+and-false true = refl
+and-false false = refl
 
 -- an event of another session, or of none
-read_by-other : (definitions : List Def) (who object : ℕ) (own : Option (ℕ × Asked)) → ForSome own (λ it. it.0 ≢ who) → (read : Body) → read_by definitions who object own read ≡ read
-read_by-other definitions who object None differs read = refl
-read_by-other definitions who object (Some (place, Refused refusal)) differs read = refl
-read_by-other definitions who object (Some (place, Runs own)) differs read =
-    ap (λ (same : Bool). if same then read_after definitions object own read else read) (ne_eqb place who (differs (place, Runs own) refl))
+seen_by-other : (definitions : List Def) (shared : Option HistoryDisk) (who object : ℕ) (own : Option (ℕ × Asked)) (refused : Bool) → ForSome own (λ it. it.0 ≢ who) → (seen : Option ObjectView) → seen_by definitions shared who object own refused seen ≡ seen
+seen_by-other definitions shared who object None refused differs seen = refl
+seen_by-other definitions shared who object (Some (place, Refused refusal)) refused differs seen = refl
+seen_by-other definitions shared who object (Some (place, Runs own)) refused differs seen =
+    ap (λ (same : Bool). cond (same && not refused) (seen_now definitions shared object own seen) seen) (ne_eqb place who (differs (place, Runs own) refl))
+
+-- one that is refused
+seen_by-refused : (definitions : List Def) (shared : Option HistoryDisk) (who object : ℕ) (own : Option (ℕ × Asked)) (seen : Option ObjectView) → seen_by definitions shared who object own true seen ≡ seen
+seen_by-refused definitions shared who object None seen = refl
+seen_by-refused definitions shared who object (Some (place, Refused refusal)) seen = refl
+seen_by-refused definitions shared who object (Some (place, Runs own)) seen =
+    ap (λ (b : Bool). cond b (seen_now definitions shared object own seen) seen) (and-false (place == who))
 
 -- what is asked is asked of the session of the event
 under-holds : (w : HistoryWorld) (P : ℕ → Type 0) (own : Option (ℕ × Written)) → ForSome own (λ it. P it.0) → ForSome (asked_under w own) (λ it. P it.0)
@@ -73,51 +95,121 @@ index-push [] x d (suc i) same within = absurd (omega arith)
 index-push (y ∷ xs) x d zero same within = refl
 index-push (y ∷ xs) x d (suc i) same within = index-push xs x d i (λ at. same (omega arith)) (omega arith)
 
--- what a session of this world reads now, after an event
+-- ---- what a session sees
+
+abbrev seen_with : ℕ → Option ViewState → Option ObjectView
+seen_with object view = elim view [ None ↦ None | Some one ↦ object_of one object ]
+
+abbrev seen_of : ℕ → List Session → ℕ → Option ObjectView
+seen_of object sessions who = option_and_then (λ (session : Session). seen_in session object) (slice_get sessions who)
+
+-- a new session sees nothing
+push-seen : (object : ℕ) (sessions : List Session) (x : Session) → x.view ≡ None → (who : ℕ) → seen_of object (sessions ++ x ∷ []) who ≡ seen_of object sessions who
+push-seen object [] x detached zero = ap (seen_with object) detached
+push-seen object [] x detached (suc who) = refl
+push-seen object (y ∷ sessions) x detached zero = refl
+push-seen object (y ∷ sessions) x detached (suc who) = push-seen object sessions x detached who
+
+-- by a command that moves what is seen
+moved-now : (definitions : List Def) (disk : HistoryDisk) (object : ℕ) (own : Command) (seen : Option ObjectView) → moves_view own ≡ true → seen_now definitions (Some disk) object own seen ≡ option_map (seen_after definitions disk.state object own) seen
+moved-now definitions disk object (command.Attach mode) seen is = absurd (true≢false (sym is))
+moved-now definitions disk object command.Detach seen is = absurd (true≢false (sym is))
+moved-now definitions disk object (command.Acquire keep fresh same) seen is = refl
+moved-now definitions disk object (command.Resync objects) seen is = refl
+moved-now definitions disk object (command.Release objects) seen is = refl
+moved-now definitions disk object (command.Revert objects) seen is = refl
+moved-now definitions disk object (command.Update objects) seen is = refl
+moved-now definitions disk object command.Commit seen is = refl
+moved-now definitions disk object (command.Assign name value) seen is = refl
+moved-now definitions disk object (command.Show name) seen is = refl
+
+answer-refused : (given : Answer) → is_refused (Some (answer_of given)) ≡ is_refusal given
+answer-refused answer.Done = refl
+answer-refused (answer.Shown cell) = refl
+answer-refused (answer.Refused refusal) = refl
+
+-- ---- a session's turn
+
+module _ (coming : List Outcome) (definitions : List Def) (names : List (List ℕ)) (sessions : List Session) (disk : HistoryDisk) (s : Session) (fits : SharedFits definitions sessions disk.state) (own_place : slice_get sessions s.who ≡ Some s) (own : Command) (ready : IsReady s own) (object : ℕ) where
+  abbrev t : Turn HistoryDisk
+  t = turn (by_history coming) definitions names disk s own
+
+  abbrev Sees : Type 0
+  Sees = seen_in t.session object ≡ cond (not (is_refusal t.answer)) (seen_now definitions (Some t.shared) object own (seen_in s object)) (seen_in s object)
+
+  -- where it isn't refused
+  accepted : is_refusal t.answer ≡ false → cond (not (is_refusal t.answer)) (seen_now definitions (Some t.shared) object own (seen_in s object)) (seen_in s object) ≡ seen_now definitions (Some t.shared) object own (seen_in s object)
+  accepted done = ap (λ (b : Bool). cond (not b) (seen_now definitions (Some t.shared) object own (seen_in s object)) (seen_in s object)) done
+
+  still-sees : is_refusal t.answer ≡ true → t.session ≡ s → Sees
+  still-sees refused same =
+      ap (λ (it : Session). seen_in it object) same ∙ sym (ap (λ (b : Bool). cond (not b) (seen_now definitions (Some t.shared) object own (seen_in s object)) (seen_in s object)) refused)
+
+  module _ (view : ViewState) (attached : s.view ≡ Some view) where
+    detached-sees : HasDetached own disk s t → Sees
+    detached-sees it =
+        ap (seen_with object) it.detached ∙ sym (accepted (ap is_refusal it.done) ∙ ap (λ (c : Command). seen_now definitions (Some t.shared) object c (seen_in s object)) it.by_detach)
+
+    moved-sees : HasMoved definitions own disk s view t → Sees
+    moved-sees it =
+        ap (seen_with object) it.attached ∙ by_seen (object_of view object) refl
+        ∙ sym (accepted it.done ∙ moved-now definitions t.shared object own (seen_in s object) it.other ∙ ap (λ (those : Option ViewState). option_map (seen_after definitions t.shared.state object own) (seen_with object those)) attached)
+      where
+        none-after : (after : Option ObjectView) → object_of it.view_after object ≡ after → object_of view object ≡ None → after ≡ None
+        none-after None is none = refl
+        none-after (Some one) is none =
+            let old = seen-before it.view_after view object one it.kinds is in
+            absurd (none-some old.0 (sym none ∙ old.1))
+
+        by_seen : (found : Option ObjectView) → object_of view object ≡ found → object_of it.view_after object ≡ option_map (seen_after definitions t.shared.state object own) (object_of view object)
+        by_seen None none = none-after (object_of it.view_after object) refl none ∙ sym (ap (option_map (seen_after definitions t.shared.state object own)) none)
+        by_seen (Some old) there =
+            let new = it.each object old there in
+            new.1 ∙ ap Some new.2.sees ∙ sym (ap (option_map (seen_after definitions t.shared.state object own)) there)
+
+  attached-sees : s.view ≡ None → (mode : Mode) → own ≡ command.Attach mode → Attaches disk mode t → Sees
+  attached-sees detached mode is it =
+      ap (seen_with object) it.attached ∙ it.each object
+      ∙ sym (accepted (ap is_refusal it.answer) ∙ ap (λ (c : Command). seen_now definitions (Some t.shared) object c (seen_in s object)) is ∙ ap (λ (those : HistoryDisk). first_seen those.state object) it.shared)
+
+  attaches : s.view ≡ None → (mode : Mode) → own ≡ command.Attach mode → Attaches disk mode t
+  attaches detached mode is =
+      subst₂ (λ (d : List Def) (asked : Command). Attaches disk mode (turn (by_history coming) d names disk s asked)) fits.definitions_are (sym is) (attach_gives_latest coming names disk s mode detached)
+
+  turn_sees : Sees
+  turn_sees = by_view s.view refl
+    where
+      by_view : (view : Option ViewState) → s.view ≡ view → Sees
+      by_view (Some view) attached =
+          ⊎_elim (λ it. still-sees it.refused it.same_session) (λ rest. ⊎_elim (detached-sees view attached) (moved-sees view attached) rest) (moves_on_disk coming definitions names sessions disk s fits own_place view attached own ready)
+      by_view None detached =
+          ⊎_elim (λ it. attached-sees detached it.0 it.1 (attaches detached it.0 it.1)) (λ it. still-sees it.0 it.1) (stays_detached coming definitions names disk s detached own)
+
+-- ---- an event
+
 module _ (coming : List Outcome) (w : HistoryWorld) (event : Event) (who object : ℕ) where
-  -- the session had a view of the object before, and reads by the event what it reads now
-  record CameFrom (read : Body) : Type 0 where
-    session : Session
-    view : ViewState
-    one : ObjectView
-    found : slice_get w.sessions who ≡ Some session
-    attached : session.view ≡ Some view
-    seen : object_of view object ≡ Some one
-    reads : read ≡ read_by w.definitions who object (asked_of w event) one.private
+  abbrev Step : Answered language HistoryDisk → Type 0
+  Step a =
+      seen_at a.world who object ≡ seen_by w.definitions a.world.shared who object (asked_of w event) (is_refused a.answer) (seen_at w who object)
 
-  -- the event is an AW ATTACH of a session that wasn't attached, and it reads the latest generation
-  record HasAttached (shared : Option HistoryDisk) (read : Body) : Type 0 where
-    own : asked_of w event ≡ Some (who, Runs command.Attach)
-    unattached : ForSome (slice_get w.sessions who) (λ session. session.view ≡ None)
-    disk : HistoryDisk
-    is_open : shared ≡ Some disk
-    reads : read ≡ latest_body disk.state object
-
-  abbrev Reads : Answered language HistoryDisk → Type 0
-  Reads a =
-      (session : Session) (view : ViewState) (one : ObjectView) → slice_get a.world.sessions who ≡ Some session → session.view ≡ Some view → object_of view object ≡ Some one → CameFrom one.private ⊎ HasAttached a.world.shared one.private
-
-  -- a session that is attached was there before
-  was_there : (after : HistoryWorld) → Rests (by_history coming) w after → (session : Session) (view : ViewState) → session.view ≡ Some view → slice_get after.sessions who ≡ Some session → slice_get w.sessions who ≡ Some session
-  was_there after rests session view attached found =
-      ⊎_elim (λ same. ap (λ (those : List Session). slice_get those who) (sym same) ∙ found) (λ longer. ⊎_elim (λ old. old) (λ last. absurd (none-some view (sym (ap (λ (it : Session). it.view) last.1) ∙ attached))) (slice_get-push_cases w.sessions (new_session (length w.names)) who session (ap (λ (those : List Session). slice_get those who) (sym longer) ∙ found))) rests.sessions
+  rests-seen : (after : HistoryWorld) → Rests (by_history coming) w after → seen_at after who object ≡ seen_at w who object
+  rests-seen after rests =
+      ⊎_elim (λ same. ap (λ (those : List Session). seen_of object those who) same) (λ longer. ap (λ (those : List Session). seen_of object those who) longer ∙ push-seen object w.sessions (new_session (length w.names)) refl who) rests.sessions
 
   -- of none of the session's own lines
-  still : ForSome (session_of w event) (λ it. it.0 ≢ who) → (a : Answered language HistoryDisk) → ((session : Session) (view : ViewState) → session.view ≡ Some view → slice_get a.world.sessions who ≡ Some session → slice_get w.sessions who ≡ Some session) → Reads a
-  still differs a there session view one found attached seen =
-      inl (record { session = session; view = view; one = one; found = there session view attached found; attached = attached; seen = seen; reads = sym (read_by-other w.definitions who object (asked_of w event) (under-holds w (λ place. place ≢ who) (session_of w event) differs) one.private) })
+  still : ForSome (session_of w event) (λ it. it.0 ≢ who) → (a : Answered language HistoryDisk) → seen_at a.world who object ≡ seen_at w who object → Step a
+  still differs a same =
+      same ∙ sym (seen_by-other w.definitions a.world.shared who object (asked_of w event) (is_refused a.answer) (under-holds w (λ place. place ≢ who) (session_of w event) differs) (seen_at w who object))
 
--- a turn of the session
 module _ (names : List (List ℕ)) (records : List Decoded) (coming : List Outcome) (events : List Event) (event : Event) (can : CanBeOpened records) (who object : ℕ) where
   abbrev w : HistoryWorld
   w = world_at names records coming events
 
   abbrev Now : Answered language HistoryDisk → Type 0
-  Now a = Reads coming w event who object a
+  Now a = Step coming w event who object a
 
-  -- a session of this world is one of 64, and of a turn's world too
-  few : (session : Session) → slice_get w.sessions who ≡ Some session → who < 64
-  few session found = omega (arith, slice_get_within w.sessions who session found, (always_fits names records coming events can).paired)
+  of_none : session_of w event ≡ None → ForSome (session_of w event) (λ own. own.0 ≢ who)
+  of_none none own is = absurd (none-some own (sym none ∙ is))
 
   module _ (after : HistoryWorld) (rests : Rests (by_history coming) w after) (disk : HistoryDisk) (is_open : after.shared ≡ Some disk) (fits : SharedFits after.definitions after.sessions disk.state) (here : who < length after.sessions) (own : Command) (is : asked_of w event ≡ Some (who, Runs own)) where
     abbrev s : Session
@@ -129,66 +221,22 @@ module _ (names : List (List ℕ)) (records : List Decoded) (coming : List Outco
     by_number : slice_get after.sessions s.who ≡ Some s
     by_number = ap (slice_get after.sessions) (fits.each who s found_here).number ∙ found_here
 
-    abbrev t : Turn HistoryDisk
-    t = turn (by_history coming) after.definitions after.names disk s own
+    abbrev mine : Turn HistoryDisk
+    mine = turn (by_history coming) after.definitions after.names disk s own
 
-    none_attached : s.view ≡ None → ForSome (slice_get w.sessions who) (λ session. session.view ≡ None)
-    none_attached detached session found =
-        ⊎_elim (λ same. as_here (ap (λ (those : List Session). slice_get those who) same ∙ found)) (λ longer. as_here (ap (λ (those : List Session). slice_get those who) longer ∙ slice_get-append w.sessions (new_session (length w.names) ∷ []) who session found)) rests.sessions
-      where
-        as_here : slice_get after.sessions who ≡ Some session → session.view ≡ None
-        as_here there = ap (λ (it : Session). it.view) (same_Some session s (sym there ∙ found_here)) ∙ detached
+    abbrev seen_so : List Def → Bool → Bool → Option ObjectView → Option ObjectView
+    seen_so definitions same refused seen = cond (same && not refused) (seen_now definitions (Some mine.shared) object own seen) seen
 
-    module _ (view_now : ViewState) (one : ObjectView) (seen : object_of view_now object ≡ Some one) (now : t.session.view ≡ Some view_now) where
-      abbrev Read : Type 0
-      Read = CameFrom coming w event who object one.private ⊎ HasAttached coming w event who object (Some t.shared) one.private
-
-      moved_read : (view : ViewState) → s.view ≡ Some view → Read
-      moved_read view attached =
-          let moves : Moves after.definitions own disk.state t.shared.state s view t.session = moves_on_disk coming after.definitions after.names after.sessions disk s fits by_number view attached own in
-          let those : view_now ≡ moves.view_after = same_Some view_now moves.view_after (sym now ∙ moves.attached) in
-          let old = seen-before view_now view object one (ap kinds_of those ∙ moves.kinds) seen in
-          inl (from moves those old.0 old.1)
-        where
-          from : (moves : Moves after.definitions own disk.state t.shared.state s view t.session) → view_now ≡ moves.view_after → (old : ObjectView) → object_of view object ≡ Some old → CameFrom coming w event who object one.private
-          from moves those old found =
-              let new = moves.each object old found in
-              let same : one ≡ new.0 = same_Some one new.0 (sym seen ∙ ap (λ (its : ViewState). object_of its object) those ∙ new.1) in
-              record {
-                session = s;
-                view = view;
-                one = old;
-                found = was_there coming w event who object after rests s view attached found_here;
-                attached = attached;
-                seen = found;
-                reads = ap (λ (it : ObjectView). it.private) same ∙ new.2.reads ∙ ap (λ definitions. read_after definitions object own old.private) rests.definitions ∙ sym (ap (λ (mine : Bool). if mine then read_after w.definitions object own old.private else old.private) (eq-eqb who who refl)) ∙ ap (λ it. read_by w.definitions who object it old.private) (sym is);
-              }
-
-      attached_read : s.view ≡ None → own ≡ command.Attach → Read
-      attached_read detached attaches =
-          let gives : Attaches disk (turn (by_history coming) disk.state.definitions after.names disk s command.Attach) = attach_gives_latest coming after.names disk s detached in
-          let fresh : Attaches disk t = subst₂ (λ (definitions : List Def) (asked : Command). Attaches disk (turn (by_history coming) definitions after.names disk s asked)) fits.definitions_are (sym attaches) gives in
-          let those : view_now ≡ fresh.view = same_Some view_now fresh.view (sym now ∙ fresh.attached) in
-          let latest = if-some (IsFresh disk.state object) (object_of fresh.view object) one (sym (ap (λ (its : ViewState). object_of its object) those) ∙ seen) (fresh.each object) in
-          inr (record { own = is ∙ ap (λ (it : Command). Some (who, Runs it)) attaches; unattached = none_attached detached; disk = disk; is_open = ap Some fresh.shared; reads = latest.reads ∙ latest.has.body })
-
-      turned_read : Read
-      turned_read = by_view s.view refl
-        where
-          by_view : (view : Option ViewState) → s.view ≡ view → Read
-          by_view (Some view) attached = moved_read view attached
-          by_view None detached =
-              ⊎_elim (attached_read detached) (λ same. absurd (none-some view_now (sym detached ∙ sym (ap (λ (it : Session). it.view) same) ∙ now))) (stays_detached coming after.definitions after.names disk s detached own)
-
-    own_turn : Now (with_turn after who t)
-    own_turn session view one found attached seen =
-        let it : session ≡ t.session = same_Some session t.session (sym found ∙ slice_get-set_same after.sessions who s t.session found_here) in
-        turned_read view one seen (ap (λ (it : Session). it.view) (sym it) ∙ attached)
-
-  -- ---- the event
-
-  of_none : session_of w event ≡ None → ForSome (session_of w event) (λ own. own.0 ≢ who)
-  of_none none own is = absurd (none-some own (sym none ∙ is))
+    own_turn : IsReady s own → Now (with_turn after who mine)
+    own_turn ready =
+        ap (option_and_then (λ (session : Session). seen_in session object)) (slice_get-set_same after.sessions who s mine.session found_here)
+        ∙ turn_sees coming after.definitions after.names after.sessions disk s fits by_number own ready object
+        ∙ sym (
+        ap (λ (it : Option (ℕ × Asked)). seen_by w.definitions (Some mine.shared) who object it (is_refused (Some (answer_of mine.answer))) (seen_at w who object)) is
+        ∙ ap (λ (same : Bool). seen_so w.definitions same (is_refused (Some (answer_of mine.answer))) (seen_at w who object)) (eq-eqb who who refl)
+        ∙ ap (λ (refused : Bool). seen_so w.definitions true refused (seen_at w who object)) (answer-refused mine.answer)
+        ∙ ap (λ (d : List Def). seen_so d true (is_refusal mine.answer) (seen_at w who object)) (sym rests.definitions)
+        ∙ ap (seen_so after.definitions true (is_refusal mine.answer)) (sym (rests-seen coming w event who object after rests) ∙ ap (option_and_then (λ (session : Session). seen_in session object)) found_here))
 
   module _ (after : HistoryWorld) (name : List ℕ) (place : ℕ) (taken_up : after ≡ with_session (closed (by_history coming).opens w) name) (rests : Rests (by_history coming) w after) (may : MayTurn (by_history coming) after place (shared_of (by_history coming).opens w)) where
     abbrev disk : HistoryDisk
@@ -221,34 +269,45 @@ module _ (names : List (List ℕ)) (records : List Decoded) (coming : List Outco
     asked-is written is =
         ap (asked_under w) is ∙ ap₂ (λ (d : List Def) (s : Session). Some (place, asked d s written.line written.from)) (sym rests.definitions) (sym own-same)
 
-    by_asked : (written : Written) → session_of w event ≡ Some (place, written) → (a : Asked) → asked_of w event ≡ Some (place, a) → Now (settled (by_history coming) (begun_so after disk place (begin_asked after.definitions (own_session after place) a)))
-    by_asked written of_session (Refused refusal) is = λ session view one found attached seen.
-        inl (record { session = session; view = view; one = one; found = was_there coming w event who object after rests session view attached (⊎_elim (set session) (λ other. other.1) (slice_get-set_cases after.sessions place who (own_session after place) session found)); attached = attached; seen = seen; reads = sym (ap (λ it. read_by w.definitions who object it one.private) is) })
+    -- a session that is put where it was
+    put-back : seen_of object (slice_set after.sessions place (own_session after place)) who ≡ seen_of object after.sessions who
+    put-back = ⊎_elim same other (cases_eq place who)
       where
-        set : (session : Session) → (who ≡ place) × (session ≡ own_session after place) → slice_get after.sessions who ≡ Some session
-        set session same =
-            ap (slice_get after.sessions) same.0 ∙ slice_get-get_or after.sessions place (new_session place) here ∙ ap Some (sym same.1)
-    by_asked written of_session (Runs own) is = subst Now (sym (commanded-turn (by_history coming) after place disk may.open_so own)) (⊎_elim mine other (cases_eq place who))
+        same : place ≡ who → seen_of object (slice_set after.sessions place (own_session after place)) who ≡ seen_of object after.sessions who
+        same at =
+            subst (λ (one : ℕ). seen_of object (slice_set after.sessions place (own_session after place)) one ≡ seen_of object after.sessions one) at
+            (let there = slice_get-get_or after.sessions place (new_session place) here in
+            ap (option_and_then (λ (session : Session). seen_in session object)) (slice_get-set_same after.sessions place (own_session after place) (own_session after place) there ∙ sym there))
+
+        other : place ≢ who → seen_of object (slice_set after.sessions place (own_session after place)) who ≡ seen_of object after.sessions who
+        other differs = ap (option_and_then (λ (session : Session). seen_in session object)) (slice_get-set_other after.sessions place who (own_session after place) (λ same. differs (sym same)))
+
+    by_asked : (written : Written) → session_of w event ≡ Some (place, written) → (a : Asked) → asked_of w event ≡ Some (place, a) → IsReadyFor (own_session after place) a → Now (settled (by_history coming) (begun_so after disk place (begin_asked after.definitions (own_session after place) a)))
+    by_asked written of_session (Refused refusal) is ready =
+        put-back ∙ rests-seen coming w event who object after rests
+        ∙ sym (ap (λ (it : Option (ℕ × Asked)). seen_by w.definitions after.shared who object it true (seen_at w who object)) is)
+    by_asked written of_session (Runs own) is ready = subst Now (sym (commanded-turn (by_history coming) after place disk may.open_so own)) (⊎_elim mine_so other (cases_eq place who))
       where
-        mine : place ≡ who → Now (with_turn after place (turn (by_history coming) after.definitions after.names disk (own_session after place) own))
-        mine same =
-            subst (λ (at : ℕ). Now (with_turn after at (turn (by_history coming) after.definitions after.names disk (own_session after at) own))) (sym same) (own_turn after rests disk may.open_so fits (omega (arith, here, same)) own (is ∙ ap (λ (at : ℕ). Some (at, Runs own)) same))
+        mine_so : place ≡ who → Now (with_turn after place (turn (by_history coming) after.definitions after.names disk (own_session after place) own))
+        mine_so same =
+            subst (λ (at : ℕ). Now (with_turn after at (turn (by_history coming) after.definitions after.names disk (own_session after at) own))) (sym same) (own_turn after rests disk may.open_so fits (omega (arith, here, same)) own (is ∙ ap (λ (at : ℕ). Some (at, Runs own)) same) (subst (λ (at : ℕ). IsReady (own_session after at) own) same ready.0))
 
         other : place ≢ who → Now (with_turn after place (turn (by_history coming) after.definitions after.names disk (own_session after place) own))
         other differs =
             let t = turn (by_history coming) after.definitions after.names disk (own_session after place) own in
-            still coming w event who object (λ those at. λ same. differs (ap (λ (it : ℕ × Written). it.0) (same_Some (place, written) those (sym of_session ∙ at)) ∙ same)) (with_turn after place t) (λ session view attached found. was_there coming w event who object after rests session view attached (sym (slice_get-set_other after.sessions place who t.session (λ same. differs (sym same))) ∙ found))
+            still coming w event who object (λ those at. λ same. differs (ap (λ (it : ℕ × Written). it.0) (same_Some (place, written) those (sym of_session ∙ at)) ∙ same)) (with_turn after place t)
+            (ap (option_and_then (λ (session : Session). seen_in session object)) (slice_get-set_other after.sessions place who t.session (λ same. differs (sym same))) ∙ rests-seen coming w event who object after rests)
 
     by_statement : (written : Written) → session_of w event ≡ Some (place, written) → Now (settled (by_history coming) (commanded after disk place written))
-    by_statement written is = by_asked written is (asked after.definitions (own_session after place) written.line written.from) (asked-is written is)
+    by_statement written is =
+        by_asked written is (asked after.definitions (own_session after place) written.line written.from) (asked-is written is) (asked-ready after.definitions (own_session after place) written.line written.from)
 
-  reads_event : Now (answered (by_history coming) w event)
-  reads_event = walk (by_history coming) w event Now (record {
-    passes = λ after none rests. still coming w event who object (of_none none) (silent after) (was_there coming w event who object after rests);
-    defines = λ lines definitions of_no none is. still coming w event who object (of_none of_no) (silent (with_definitions w definitions)) (λ session view attached found. found);
-    refuses = λ after prefix refusal far why rests session view one found attached seen.
-        let there = was_there coming w event who object after rests session view attached found in
-        still coming w event who object (λ own is same. omega (arith, far own is, few session there, same)) (refused_so prefix refusal after) (was_there coming w event who object after rests) session view one found attached seen;
+  pub sees_event : Now (answered (by_history coming) w event)
+  sees_event = walk (by_history coming) w event Now (record {
+    passes = λ after none rests. still coming w event who object (of_none none) (silent after) (rests-seen coming w event who object after rests);
+    defines = λ lines definitions of_no none is. still coming w event who object (of_none of_no) (silent (with_definitions w definitions)) refl;
+    refuses = λ after prefix refusal far why rests.
+        rests-seen coming w event who object after rests ∙ sym (seen_by-refused w.definitions after.shared who object (asked_of w event) (seen_at w who object));
     turns = λ after name place statement taken_up own rests may. by_statement after name place taken_up rests may statement own;
   })
 
@@ -258,63 +317,78 @@ module _ (names : List (List ℕ)) (records : List Decoded) (coming : List Outco
   abbrev at : List Event → HistoryWorld
   at events = world_at names records coming events
 
-  abbrev AllRead : List Event → Type 0
-  AllRead events = ReadItsOwn names records coming events
-
   at-push : (events : List Event) (event : Event) → at (events ++ event ∷ []) ≡ (answered (by_history coming) (at events) event).world
   at-push events event = world_after-append (by_history coming) (opening names records) events (event ∷ [])
 
-  read_more : (events : List Event) (event : Event) (who object : ℕ) (read now : Body) → IsRead names records coming events who object read → now ≡ read_by (at events).definitions who object (asked_of (at events) event) read → IsRead names records coming (events ++ event ∷ []) who object now
-  read_more events event who object read now it is = record {
-    before = it.before;
-    event = it.event;
-    behind = it.behind ++ event ∷ [];
-    split = ap (λ those. those ++ event ∷ []) it.split ∙ append_assoc it.before (it.event ∷ it.behind) (event ∷ []);
-    attaches = it.attaches;
-    disk = it.disk;
-    open_then = it.open_then;
-    reads = is ∙ ap (λ (w : HistoryWorld). read_by w.definitions who object (asked_of w event) read) same ∙ ap (read_by last.definitions who object (asked_of last event)) it.reads ∙ sym (read_on-push coming who object start it.behind event (latest_body it.disk.state object));
-  }
+  sees_none : SeesItsOwn names records coming []
+  sees_none who object = by_session (slice_get (at []).sessions who) refl
     where
-      start : HistoryWorld
-      start = at (it.before ++ it.event ∷ [])
+      by_session : (found : Option Session) → slice_get (at []).sessions who ≡ found → option_and_then (λ (session : Session). seen_in session object) found ≡ None
+      by_session None is = refl
+      by_session (Some session) is = ap (λ (it : Session). seen_in it object) (opening_sessions names records who session is)
 
-      last : HistoryWorld
-      last = world_after (by_history coming) start it.behind
+  pub sees_its_own : (events : List Event) → SeesItsOwn names records coming events
+  sees_its_own = by_events (λ events. SeesItsOwn names records coming events) sees_none (λ events event sees who object.
+      let a = answered (by_history coming) (at events) event in
+      ap (λ (those : HistoryWorld). seen_at those who object) (at-push events event) ∙ sees_event names records coming events event can who object
+      ∙ ap (seen_by (at events).definitions a.world.shared who object (asked_of (at events) event) (is_refused a.answer)) (sees who object) ∙ sym (seen_on-push coming who object (opening names records) events event None))
 
-      same : at events ≡ last
-      same =
-          ap at (it.split ∙ sym (append_assoc it.before (it.event ∷ []) it.behind)) ∙ world_after-append (by_history coming) (opening names records) (it.before ++ it.event ∷ []) it.behind
+-- ---- who owns what
 
-  reads_none : AllRead []
-  reads_none who object session view one found attached seen =
-      absurd (none-some view (sym (unattached (slice_get_first who session found)) ∙ attached))
+abbrev pub owned_in : Option ObjectView → Bool
+owned_in None = false
+owned_in (Some found) = found.owned
+
+-- a session owns what it sees as owned, and nothing else
+module _ (definitions : List Def) (sessions : List Session) (shared : Workspace) (fits : SharedFits definitions sessions shared) (who object : ℕ) where
+  view-of : (session : Session) → slice_get sessions who ≡ Some session → (view : ViewState) → session.view ≡ Some view → ViewFits shared who view
+  view-of session found view attached = (fits.each who session found).view view attached
+
+  some-view : (found : Option ViewState) → IsSome found → (view : ViewState) × (found ≡ Some view)
+  some-view None is = cc
+  some-view (Some view) is = (view, refl)
+
+  pub owner-sees : owner_of shared.owners object ≡ Some who → owned_in (seen_of object sessions who) ≡ true
+  owner-sees own =
+      let its = fits.owners object who own in
+      let session = its.1.0 in
+      let view = some-view session.view its.1.2 in
+      let fitting = view-of session its.1.1 view.0 view.1 in
+      let kind = some-kind (object_in (kept_kinds definitions) object) its.0 in
+      let found = kept-seen definitions view.0 object kind.0 (fitting.fits.kinds ∙ ap kept_kinds fits.definitions_are) kind.1 in
+      let of_object = if-some (fit.ObjectFits (bodies_of shared.definitions) shared.history shared.owners view.0.who object) (object_of view.0 object) found.0 found.1 (fitting.fits.each object) in
+      ap (λ (one : Option Session). owned_in (option_and_then (λ (session : Session). seen_in session object) one)) its.1.1
+      ∙ ap (λ (one : Option ViewState). owned_in (seen_with object one)) view.1 ∙ ap owned_in found.1 ∙ of_object.owned.1 (own ∙ ap Some (sym fitting.number))
+
+  pub sees-owner : owned_in (seen_of object sessions who) ≡ true → owner_of shared.owners object ≡ Some who
+  sees-owner = by_session (slice_get sessions who) refl
     where
-      unattached : session ≡ new_session who → session.view ≡ None
-      unattached same = ap (λ (it : Session). it.view) same
+      by_found : (view : ViewState) → ViewFits shared who view → (found : Option ObjectView) → object_of view object ≡ found → owned_in found ≡ true → owner_of shared.owners object ≡ Some who
+      by_found view fitting None is own = absurd (true≢false (sym own))
+      by_found view fitting (Some found) is own =
+          let of_object = if-some (fit.ObjectFits (bodies_of shared.definitions) shared.history shared.owners view.who object) (object_of view object) found is (fitting.fits.each object) in
+          of_object.owned.0 own ∙ ap Some fitting.number
 
-      slice_get_first : (who : ℕ) (session : Session) → slice_get (at []).sessions who ≡ Some session → session ≡ new_session who
-      slice_get_first who session found = opening_sessions names records who session found
+      by_view : (session : Session) → slice_get sessions who ≡ Some session → (view : Option ViewState) → session.view ≡ view → owned_in (seen_with object view) ≡ true → owner_of shared.owners object ≡ Some who
+      by_view session found None is own = absurd (true≢false (sym own))
+      by_view session found (Some view) is own = by_found view (view-of session found view is) (object_of view object) refl own
 
-  reads_more : (events : List Event) (event : Event) → AllRead events → AllRead (events ++ event ∷ [])
-  reads_more events event reads who object session view one found attached seen =
-      ⊎_elim came now (reads_event names records coming events event can who object session view one (sym (ap (λ (w : HistoryWorld). slice_get w.sessions who) (at-push events event)) ∙ found) attached seen)
-    where
-      came : CameFrom coming (at events) event who object one.private → IsRead names records coming (events ++ event ∷ []) who object one.private
-      came from =
-          read_more events event who object from.one.private one.private (reads who object from.session from.view from.one from.found from.attached from.seen) from.reads
+      by_session : (found : Option Session) → slice_get sessions who ≡ found → owned_in (option_and_then (λ (session : Session). seen_in session object) found) ≡ true → owner_of shared.owners object ≡ Some who
+      by_session None is own = absurd (true≢false (sym own))
+      by_session (Some session) is own = by_view session is session.view refl own
 
-      now : HasAttached coming (at events) event who object (answered (by_history coming) (at events) event).world.shared one.private → IsRead names records coming (events ++ event ∷ []) who object one.private
-      now it = record {
-        before = events;
-        event = event;
-        behind = [];
-        split = refl;
-        attaches = record { own = it.own; unattached = it.unattached };
-        disk = it.disk;
-        open_then = ap (λ (w : HistoryWorld). w.shared) (at-push events event) ∙ it.is_open;
-        reads = it.reads;
-      }
-
-  pub read_its_own : (events : List Event) → ReadItsOwn names records coming events
-  read_its_own = by_events AllRead reads_none reads_more
+module _ (names : List (List ℕ)) (records : List Decoded) (coming : List Outcome) (events : List Event) (can : CanBeOpened records) where
+  pub keeps_owned : (event : Event) → KeepsOwned coming (world_at names records coming events) event
+  keeps_owned event who object before after differs before_is after_is =
+      let w = world_at names records coming events in
+      let last = world_at names records coming (events ++ event ∷ []) in
+      let pushed : last ≡ (answered (by_history coming) w event).world = world_after-append (by_history coming) (opening names records) events (event ∷ []) in
+      let then_fits = fits_at names records coming events can before before_is in
+      let now_fits = fits_at names records coming (events ++ event ∷ []) can after (ap (λ (those : HistoryWorld). those.shared) pushed ∙ after_is) in
+      let a = answered (by_history coming) w event in
+      let same : seen_at last who object ≡ seen_at w who object =
+      ap (λ (those : HistoryWorld). seen_at those who object) pushed ∙ sees_event names records coming events event can who object
+      ∙ seen_by-other w.definitions a.world.shared who object (asked_of w event) (is_refused a.answer) (under-holds w (λ place. place ≢ who) (session_of w event) differs) (seen_at w who object) in (
+        λ own. sees-owner w.definitions w.sessions before.state then_fits who object (ap owned_in (sym same) ∙ owner-sees last.definitions last.sessions after.state now_fits who object own),
+        λ own. sees-owner last.definitions last.sessions after.state now_fits who object (ap owned_in same ∙ owner-sees w.definitions w.sessions before.state then_fits who object own),
+      )

@@ -1,10 +1,11 @@
--- A commit extends the latest generations, and an acquire grants an object of which the session has the latest one.
-use Rattle.std.specs.Prelude.{◌≡◌, ◌≢◌, ◌≤◌, ◌<◌, ◌+◌, ◌⊎◌, ℕ, List, [], ◌∷◌, ◌++◌, Some, IfSome, slice_get}
+-- A commit extends the latest generations and gives up what is leaving, and an acquire grants objects of which the session then has
+-- the latest ones.
+use Rattle.std.specs.Prelude.{◌≡◌, ◌≢◌, ◌≤◌, ◌<◌, ◌+◌, ◌⊎◌, ℕ, true, false, List, [], ◌∷◌, ◌++◌, None, Some, IfSome, slice_get}
 use Rattle.aw_schema.specs.declared.definition.Def.{Def}
-use Rattle.aw_schema.specs.Definitions as definition
 use Rattle.aw_body.specs.Owners.{owner_of}
 use Rattle.aw_codec.specs.declared.record.Decoded.TheVariants as stored
 use Rattle.mv_core.specs.Workspace.{Workspace}
+use Rattle.mv_view.specs.Each.{names}
 use Rattle.mv_view.specs.Rules.{changes}
 use Rattle.mv_view.specs.ViewState.{ObjectView, ViewState, object_of}
 use Rattle.ses_step.specs.declared.answer.Answer.{Answer}
@@ -35,6 +36,11 @@ pub record IsCommitted (before after : Workspace) (object : ℕ) (found : Object
   pub changed : found.staged ≢ found.base → IsExtended before after object found
   pub kept : found.staged ≡ found.base → generations after object ≡ generations before object
 
+-- what is marked as leaving nobody owns then, and any other object is whose it was
+pub record Leaves (before after : Workspace) (object : ℕ) (found : ObjectView) : Type 0 where
+  pub left : found.leaving ≡ true → owner_of after.owners object ≡ None
+  pub stays : found.leaving ≡ false → owner_of after.owners object ≡ owner_of before.owners object
+
 -- no number is left for an object with staged changes: the commit is refused with 22
 pub record IsFull (definitions : List Def) (view : ViewState) (answer : Answer) : Type 0 where
   pub object : ℕ
@@ -60,19 +66,26 @@ pub record RefusesCommit (definitions : List Def) (disk : HistoryDisk) (session 
   pub same_session : t.session ≡ session
   pub same_state : t.shared.state ≡ disk.state
 
--- what a COMMIT is answered, and what it adds
+-- what a COMMIT is answered, and what it adds and gives up
 pub record Commits (definitions : List Def) (disk : HistoryDisk) (session : Session) (view : ViewState) (t : Turn HistoryDisk) : Type 0 where
   pub answers : (t.answer ≡ Done) ⊎ RefusesCommit definitions disk session view t
   pub extends : t.answer ≡ Done → (object : ℕ) → IfSome (object_of view object) (IsCommitted disk.state t.shared.state object)
+  pub leaves : t.answer ≡ Done → (object : ℕ) → IfSome (object_of view object) (Leaves disk.state t.shared.state object)
 
--- an object that was granted: the session has its latest generation, and owns it
-pub record IsGranted (definitions : List Def) (before after : Workspace) (session : Session) (view : ViewState) (name : List ℕ) : Type 0 where
-  pub object : ℕ
+-- the session has the latest generation of an object that it sees
+pub record SeesLatest (w : Workspace) (view : ViewState) (object : ℕ) : Type 0 where
   pub found : ObjectView
-  pub place : definition.object_of definitions name ≡ Some object
   pub seen : object_of view object ≡ Some found
-  pub has : HasLatest before object found
-  pub owned : owner_of after.owners object ≡ Some session.who
+  pub has : HasLatest w object found
+
+-- An ACQUIRE that was granted: of the objects of the first and of the third list the session had the latest generation. From then on it
+-- has that of all three lists, and owns the objects of the first two. No generation is added.
+pub record IsGranted (keep fresh same : List ℕ) (before after : Workspace) (session : Session) (view : ViewState) (moved : Session) : Type 0 where
+  pub view_after : ViewState
+  pub attached : moved.view ≡ Some view_after
+  pub had : (object : ℕ) → (names keep object ≡ true) ⊎ (names same object ≡ true) → SeesLatest before view object
+  pub has : (object : ℕ) → (names keep object ≡ true) ⊎ ((names fresh object ≡ true) ⊎ (names same object ≡ true)) → SeesLatest after view_after object
+  pub owned : (object : ℕ) → (names keep object ≡ true) ⊎ (names fresh object ≡ true) → owner_of after.owners object ≡ Some session.who
   pub history : after.history ≡ before.history
 
 -- of each attached session of a world
@@ -86,4 +99,4 @@ CommitsExtend coming w =
 
 abbrev pub GrantsHaveLatest : List Outcome → HistoryWorld → Type 0
 GrantsHaveLatest coming w =
-    ForAttached w (λ disk session view. (name : List ℕ) → let t = turn (by_history coming) w.definitions w.names disk session (command.Acquire name) in t.answer ≡ Done → IsGranted w.definitions disk.state t.shared.state session view name)
+    ForAttached w (λ disk session view. (keep fresh same : List ℕ) → let t = turn (by_history coming) w.definitions w.names disk session (command.Acquire keep fresh same) in t.answer ≡ Done → IsGranted keep fresh same disk.state t.shared.state session view t.session)

@@ -1,5 +1,5 @@
 -- What the sessions see fits what is committed and owned.
-use Rattle.std.specs.Prelude.{◌≡◌, ℕ, min, true, false, List, [], length, Some, None, All, IfSome, IsSome, slice_get}
+use Rattle.std.specs.Prelude.{◌≡◌, ◌≢◌, ℕ, min, true, List, [], length, Some, None, All, IfSome, IsSome, slice_get}
 use Rattle.std.specs.Option.{ForSome}
 use Rattle.aw_lists.specs.Coord.{AreSlots}
 use Rattle.aw_schema.specs.declared.definition.Def.{Def}
@@ -11,6 +11,7 @@ use Rattle.aw_body.specs.KeptBodies.{bodies_of}
 use Rattle.aw_body.specs.Owners.{owner_of}
 use Rattle.aw_codec.specs.declared.record.Decoded.TheVariants.{Definitions}
 use Rattle.aw_codec.specs.Records.{IsKeyedCell}
+use Rattle.dml_tree.specs.declared.statement.Mode.TheVariants.{ReadOnly}
 use Rattle.mv_core.specs.Workspace.{Workspace}
 use Rattle.aw_store.specs.StoredRecords.{IsStored, are_replayed, are_accepted_after}
 use Rattle.mv_view.specs.Each.{object_in}
@@ -36,24 +37,24 @@ CanBeWritten (Set slots) = (are_distinct slots ≡ true) × AreSlots slots
 CanBeWritten (Rel contents) = All IsKeyedCell contents.cells
 CanBeWritten (Var contents) = All IsKeyedCell contents.cells
 
--- what is staged or private of an object can be committed; and the object isn't marked as leaving, for which there is no
--- command yet
+-- what is staged or private of an object can be committed
 pub record CanBeCommitted (found : ObjectView) : Type 0 where
   pub base : CanBeWritten found.base
   pub staged : CanBeWritten found.staged × CanBeRecorded found.base found.staged
   pub private : CanBeWritten found.private × CanBeRecorded found.base found.private
-  pub staying : found.leaving ≡ false
 
 -- the view of a session has the three bodies of each kept object: its base is one generation, the session owns what is marked so
--- and has the latest one of that, nothing is staged of any other, and what is staged or private can be committed
+-- and has the latest one of that, nothing is staged of any other and it isn't leaving, and what is staged or private can be committed
 pub record ViewFits (shared : Workspace) (who : ℕ) (view : ViewState) : Type 0 where
   pub number : view.who ≡ who
   pub fits : seen.Fits shared.definitions (bodies_of shared.definitions) shared.history shared.owners view
   pub forms : AreSeen view.objects
   pub each : (object : ℕ) → IfSome (object_of view object) CanBeCommitted
 
+-- a session that attached for reading alone owns nothing
 pub record SessionFits (shared : Workspace) (who : ℕ) (session : Session) : Type 0 where
   pub number : session.who ≡ who
+  pub reads : session.mode ≡ ReadOnly → (object : ℕ) → owner_of shared.owners object ≢ Some who
   pub view : ForSome session.view (ViewFits shared who)
 
 abbrev pub IsAttached : List Session → ℕ → Type 0

@@ -1,4 +1,4 @@
--- The lines of a script as a meaning: definitions of one line and blocks, and sessions' lines, of which six commands run.
+-- The lines of a script as a meaning: definitions of one line and blocks, and sessions' lines.
 use Rattle.std.specs.Prelude.{◌&&◌, ℕ, Bool, true, false, List, [], ◌∷◌, length, min, nat_lt, Some, None, if◌then◌else◌}
 use Rattle.aw_schema.specs.declared.definition.Def.{Def}
 use Rattle.aw_body.specs.KeptBodies.{bodies_of}
@@ -19,6 +19,7 @@ use Rattle.ses_step.specs.declared.command.Asked.{Asked}
 use Rattle.ses_step.specs.declared.session.Begun.{Begun}
 use Rattle.ses_step.specs.declared.session.Begun.TheVariants.{Said, Ask}
 use Rattle.ses_step.specs.declared.session.Known.{Known as Session}
+use Rattle.ses_step.specs.declared.session.Session.{Session as Waiting}
 use Rattle.ses_step.specs.Lines.{opens_block, is_end, line_form}
 use Rattle.ses_step.specs.Answers.{answer_of}
 use Rattle.ses_step.specs.SessionLines.{asked, begun_as}
@@ -59,13 +60,10 @@ is_any (def ∷ definitions) = true
 
 -- ---- a session's line
 
--- a session that waits keeps the entry that it asked
-abbrev pub Waiting : Type 0
-Waiting = Session × Entry
-
-abbrev pub begun_of : Begun × Session → world.Begun Entry Session Waiting
-begun_of (Said answer, session) = world.said (answer_of answer) session
-begun_of (Ask entry, session) = world.ask entry (session, entry)
+-- a session that waits keeps the command by which it asked
+abbrev pub begun_of : Begun × Waiting → world.Begun Entry Session Waiting
+begun_of (Said answer, session) = world.said (answer_of answer) session.known
+begun_of (Ask entry, waiting) = world.ask entry waiting
 
 -- what is asked, as a session begins it
 abbrev pub begin_asked : List Def → Session → Asked → world.Begun Entry Session Waiting
@@ -76,7 +74,7 @@ begin definitions s written = begin_asked definitions s (asked definitions s wri
 
 abbrev pub finish : List Def → List (List ℕ) → Waiting → Reply → report.Answer × Session
 finish definitions names waiting reply =
-    let f = finished definitions names waiting.0 waiting.1 reply in
+    let f = finished definitions names waiting reply in
     (answer_of f.0, f.1)
 
 abbrev pub language : world.Meaning

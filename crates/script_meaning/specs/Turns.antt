@@ -1,7 +1,6 @@
 -- A command of a session by itself, for laws on single commands.
 use Rattle.std.specs.Prelude.{◌≡◌, ◌<◌, ℕ, List, [], Option, None, Some, slice_set}
 use Rattle.aw_schema.specs.declared.definition.Def.{Def}
-use Rattle.mv_core.specs.declared.entry.Entry.{Entry}
 use Rattle.mv_core.specs.declared.entry.Reply.{Reply}
 use Rattle.ses_report.specs.declared.refusal.Refusal.{Refusal}
 use Rattle.ses_step.specs.declared.command.Asked.{Asked}
@@ -11,11 +10,12 @@ use Rattle.ses_step.specs.declared.answer.Answer.{Answer}
 use Rattle.ses_step.specs.declared.session.Begun.{Begun}
 use Rattle.ses_step.specs.declared.session.Begun.TheVariants.{Said, Ask}
 use Rattle.ses_step.specs.declared.session.Known.{Known as Session}
+use Rattle.ses_step.specs.declared.session.Session.{Session as Waiting}
 use Rattle.ses_step.specs.declared.line.LineForm.TheVariants as form
 use Rattle.ses_step.specs.Answers.{answer_of}
 use Rattle.ses_step.specs.Lines.{line_form}
 use Rattle.ses_step.specs.SessionLines.{asked, line_begun}
-use Rattle.ses_step.specs.Sessions.{begun, finished}
+use Rattle.ses_step.specs.Sessions.{begun, kept_waiting, finished}
 use Rattle.script_world.specs.Worlds.{Machine, World, Event, line, Answered, name_at, answered_so, refused_so, session_place, with_session, with_own, own_session, session_of, shared_of, closed, answered}
 use Rattle.script_world.specs.Outcomes.{Outcome}
 use Rattle.script_meaning.specs.Language.{language, Written, HistoryWorld, by_history}
@@ -27,18 +27,18 @@ pub record Turn (S : Type 0) : Type 0 where
   pub shared : S
 
 module _ {S : Type 0} (machine : Machine language S) where
-  abbrev pub replied : List Def → List (List ℕ) → Session → Entry → Reply × S → Turn S
-  replied definitions names session asked r =
-      let f = finished definitions names session asked r.0 in
+  abbrev pub replied : List Def → List (List ℕ) → Waiting → Reply × S → Turn S
+  replied definitions names waiting r =
+      let f = finished definitions names waiting r.0 in
       record { answer = f.0; session = f.1; shared = r.1 }
 
   -- the session answers, or asks the shared state and answers by its reply
-  abbrev pub turn_from : List Def → List (List ℕ) → S → Begun × Session → Turn S
-  turn_from definitions names shared (Said answer, session) = record { answer = answer; session = session; shared = shared }
-  turn_from definitions names shared (Ask entry, session) = replied definitions names session entry (machine.step shared entry)
+  abbrev pub turn_from : List Def → List (List ℕ) → S → Begun × Waiting → Turn S
+  turn_from definitions names shared (Said answer, session) = record { answer = answer; session = session.known; shared = shared }
+  turn_from definitions names shared (Ask entry, waiting) = replied definitions names waiting (machine.step shared entry)
 
   abbrev pub turn : List Def → List (List ℕ) → S → Session → Command → Turn S
-  turn definitions names shared session command = turn_from definitions names shared (begun definitions session command)
+  turn definitions names shared session own = turn_from definitions names shared (kept_waiting own (begun definitions session own))
 
 -- ---- a line
 

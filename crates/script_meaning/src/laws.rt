@@ -14,7 +14,7 @@ ghost use Rattle.script_world.specs.Worlds.{Event};
 ghost use Rattle.script_meaning.specs.AcquireAnswers.{AcquiresAreAnswered};
 ghost use Rattle.script_meaning.specs.ObjectsSimulation.{AreAlike};
 ghost use Rattle.script_meaning.specs.AllDone.{IsAsWithNone};
-ghost use Rattle.script_meaning.specs.LineAnswers.{AssignmentsAreDone, IsOneLine, LinesAreAnswered, OthersAreRefused, UpdatesAreDone};
+ghost use Rattle.script_meaning.specs.LineAnswers.{AssignmentsAreDone, IsOneLine, LinesAreAnswered, OthersAreRefused, SharingGoesAhead};
 ghost use Rattle.script_meaning.specs.CommitFaults.{is_fault, fault_answer};
 ghost use Rattle.script_meaning.specs.CrashRuns.{LeavesARunOf, LeavesWhatOpens};
 ghost use Rattle.script_meaning.specs.DefinitionAnswers.{BlocksAreOpen, DefinitionsAreAnswered};
@@ -24,50 +24,64 @@ ghost use Rattle.script_meaning.specs.Fit.{WorldFits};
 ghost use Rattle.script_meaning.specs.Language.{HistoryWorld, store_writing, history_machine, by_history};
 ghost use Rattle.script_meaning.specs.RecordsOfRuns.{RecordsMatch, EndMatches, SameState};
 ghost use Rattle.aw_store.specs.StoredRecords.{CanBeOpened};
-ghost use Rattle.script_meaning.specs.SnapshotReads.{AttachGivesLatest, OwnCommandsMove, ShowsWhatIsRead, ReadItsOwn};
+ghost use Rattle.script_meaning.specs.SnapshotReads.{AttachGivesLatest, KeepsOwned, OwnCommandsMove, ReadersShareNothing, SeesItsOwn, ShowsWhatIsRead};
 ghost use Rattle.script_meaning.specs.Transcript.{SameRecords, opening, world_at};
 ghost use Rattle.script_meaning.specs.Turns.{LinesTakeTurns};
 
 /// After any lines of a script the view of each attached session fits what is committed and owned:
 /// the session has one committed generation of each kept object, has the latest one of an object
-/// that it owns, and has staged nothing of an object that it doesn't own; and a record can hold what
-/// it staged. Only attached sessions own objects. See docs/SHARING.md, 'What is proved'.
+/// that it owns, and has staged nothing of an object that it doesn't own, nor is that leaving; and a
+/// record can hold what it staged. Only attached sessions own objects, and none of those that attached
+/// for reading alone. See docs/SHARING.md, 'What is proved'.
 pub fn views_fit()
     ensures { (names : List (List ℕ)) (records : List Decoded) (coming : List Outcome) (events : List Event) → CanBeOpened records → WorldFits (world_at names records coming events) }
 {}
 
 /// After any lines of a script, a COMMIT of an attached session that is answered `ok` makes each
 /// staged body that isn't the base the generation behind the one that the session had, which was the
-/// latest, and adds none to any other object. Else it is refused, with 22 where an object's numbers
-/// are used up, with 14 where its record would have more than 67,108,864 bytes, or with 30 where the
-/// disk failed, and then changes nothing. See docs/SHARING.md, 'What is proved'.
+/// latest, and adds none to any other object; and what was marked as leaving nobody owns then, while
+/// any other object is whose it was. Else it is refused, with 22 where an object's numbers are used
+/// up, with 14 where its record would have more than 67,108,864 bytes, or with 30 where the disk
+/// failed, and then changes nothing. See docs/SHARING.md, 'What is proved'.
 pub fn commits_extend_the_latest()
     ensures { (names : List (List ℕ)) (records : List Decoded) (coming : List Outcome) (events : List Event) → CanBeOpened records → CommitsExtend coming (world_at names records coming events) }
 {}
 
-/// After any lines of a script, an ACQUIRE of an attached session that is answered `ok` is of an
-/// object of which the session has the latest generation, and the session owns it from then on.
-/// See docs/SHARING.md, 'What is proved'.
+/// After any lines of a script, an ACQUIRE of an attached session that is answered `ok` leaves it with
+/// the latest generation of each object of its three lists, which of those that aren't behind RESYNC it
+/// had before; and the session owns those that aren't behind CONSISTENT WITH from then on. See
+/// docs/SHARING.md, 'What is proved'.
 pub fn grants_have_the_latest()
     ensures { (names : List (List ℕ)) (records : List Decoded) (coming : List Outcome) (events : List Event) → CanBeOpened records → GrantsHaveLatest coming (world_at names records coming events) }
 {}
 
-/// After any lines of a script, an ACQUIRE of a kept object is answered by its owner, and where it has
-/// none by whether the session has its latest generation. See docs/SHARING.md, 'What is
+/// After any lines of a script, an ACQUIRE of objects that an attached session sees is granted as a
+/// whole, or refused by the first of them, in the order written, that blocks, and then changes nothing.
+/// An object blocks where another session owns it (17), or where nobody does, it isn't in the list
+/// behind RESYNC, and its latest number is above the session's (18). See docs/SHARING.md, 'What is
 /// proved'.
 pub fn acquires_are_answered()
     ensures { (names : List (List ℕ)) (records : List Decoded) (coming : List Outcome) (events : List Event) → CanBeOpened records → AcquiresAreAnswered coming (world_at names records coming events) }
 {}
 
-/// What a session reads is its own. AW ATTACH gives it the latest generation of each kept object. From
-/// then on it reads that, or what its own lines assigned last, and SHOW shows this. A command of its
-/// own moves what it has of an object so: it stages by UPDATE alone, has another generation by its
-/// own COMMIT alone, and gains an object by ACQUIRE alone. See docs/SHARING.md, 'What is proved'.
+/// What a session sees of an object is its own: the latest generation when it attached, and what its
+/// own commands made of that since. An assignment changes what it reads, UPDATE stages that, REVERT
+/// gives back what was staged, RESYNC and ACQUIRE with RESYNC give the latest generation, COMMIT makes
+/// what is staged the base, and AW DETACH drops it all. Ownership comes by ACQUIRE alone, and goes by
+/// RELEASE of an object of which nothing is staged, by COMMIT of one that is leaving, and by AW DETACH.
+/// See docs/SHARING.md, 'What is proved'.
 pub fn sessions_read_their_own()
     ensures attached { (coming : List Outcome) → AttachGivesLatest coming }
     ensures moved { (names : List (List ℕ)) (records : List Decoded) (coming : List Outcome) (events : List Event) → CanBeOpened records → OwnCommandsMove coming (world_at names records coming events) }
     ensures shown { (names : List (List ℕ)) (records : List Decoded) (coming : List Outcome) (events : List Event) → CanBeOpened records → ShowsWhatIsRead coming (world_at names records coming events) }
-    ensures since { (names : List (List ℕ)) (records : List Decoded) (coming : List Outcome) (events : List Event) → CanBeOpened records → ReadItsOwn names records coming events }
+    ensures since { (names : List (List ℕ)) (records : List Decoded) (coming : List Outcome) (events : List Event) → CanBeOpened records → SeesItsOwn names records coming events }
+    ensures owned { (names : List (List ℕ)) (records : List Decoded) (coming : List Outcome) (events : List Event) (event : Event) → CanBeOpened records → KeepsOwned coming (world_at names records coming events) event }
+{}
+
+/// After any lines of a script, a session that attached for reading alone owns nothing, and no line of
+/// it changes the commits, the owners or the records. See docs/SHARING.md, 'What is proved'.
+pub fn readers_share_nothing()
+    ensures { (names : List (List ℕ)) (records : List Decoded) (coming : List Outcome) (events : List Event) → CanBeOpened records → ReadersShareNothing coming (world_at names records coming events) }
 {}
 
 /// A line changes nothing of what a session holds, unless it is of that session. So what a session
@@ -77,18 +91,19 @@ pub fn lines_keep_other_sessions()
 {}
 
 /// A session's line is refused by the first of these that applies, and leaves the session: its tokens
-/// begin no statement (1); the session isn't attached (15), or for AW ATTACH is (16); a name is
-/// unknown (2), of a wrong kind (3) or comes twice (7); types (4) or dimensions (5) don't fit, or it
-/// weighs too much (14); the session owns an object (20), or doesn't own it (19); a dimension lacks a
-/// fixed value (6); statements of this form don't run yet (1). Else it is a command. One of an attached
-/// session that shows or assigns another object than an INTEGER variable without dimensions is refused
-/// with 1; UPDATE is answered `ok`, and after any lines of a script so is an assignment to such a
-/// variable. See docs/LANGUAGE.md, "Refusals".
+/// begin no statement (1); the session isn't attached (15), or for AW ATTACH is (16); it is attached
+/// for reading alone (23); a name is unknown (2), of a wrong kind (3) or comes twice (7); types (4) or
+/// dimensions (5) don't fit, or it weighs too much (14); the session owns an object (20), or doesn't
+/// own it (19); a dimension lacks a fixed value (6); statements of this form don't run yet (1). Else it
+/// is a command. One of an attached session that shows or assigns another object than an INTEGER
+/// variable without dimensions is refused with 1. After any lines of a script an assignment to such a
+/// variable is answered `ok`, and so are UPDATE, REVERT, AW DETACH, RESYNC of objects that the session
+/// sees, and RELEASE of objects that it owns. See docs/LANGUAGE.md, "Refusals".
 pub fn lines_are_answered_in_order()
     ensures in_order { LinesAreAnswered }
     ensures others { (coming : List Outcome) → OthersAreRefused coming }
     ensures assigned { (names : List (List ℕ)) (records : List Decoded) (coming : List Outcome) (events : List Event) → CanBeOpened records → AssignmentsAreDone coming (world_at names records coming events) }
-    ensures updated { (names : List (List ℕ)) (records : List Decoded) (coming : List Outcome) (events : List Event) → UpdatesAreDone coming (world_at names records coming events) }
+    ensures shared { (names : List (List ℕ)) (records : List Decoded) (coming : List Outcome) (events : List Event) → CanBeOpened records → SharingGoesAhead coming (world_at names records coming events) }
 {}
 
 /// The last line of a definition is refused, before the definitions are closed, by the first of these

@@ -10,7 +10,7 @@ pub use laws::{
     crashes_leave_what_a_run_settles, definitions_are_answered, done_outcomes_change_nothing,
     dumps_tell_numbers_and_cells, faults_are_seen, grants_have_the_latest,
     lines_are_answered_in_order, lines_give_back_the_script, lines_keep_other_sessions,
-    lines_of_no_session_stay_apart, lines_take_turns, objects_answer_as_commits, records_match,
-    refusals_change_nothing, session_lines_are_answered_once, sessions_read_their_own,
-    text_fixes_outcomes, text_is_told_once, views_fit,
+    lines_of_no_session_stay_apart, lines_take_turns, objects_answer_as_commits,
+    readers_share_nothing, records_match, refusals_change_nothing, session_lines_are_answered_once,
+    sessions_read_their_own, text_fixes_outcomes, text_is_told_once, views_fit,
 };

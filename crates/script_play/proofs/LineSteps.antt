@@ -20,8 +20,9 @@ use Rattle.ses_step.specs.declared.answer.Answer.{Answer}
 use Rattle.ses_step.specs.declared.session.Begun.{Begun}
 use Rattle.ses_step.specs.declared.session.Begun.TheVariants.{Said, Ask}
 use Rattle.ses_step.specs.declared.session.Known.{Known}
+use Rattle.ses_step.specs.declared.session.Session.{Session}
 use Rattle.ses_step.specs.SessionLines.{line_begun}
-use Rattle.ses_step.specs.Sessions.{Sees, Allows, finished, finished_by, asked_in}
+use Rattle.ses_step.specs.Sessions.{Sees, Allows, finished}
 use Rattle.script_world.specs.Outcomes.{has_faulted, Outcome, Attempt, as_done, attempts_of}
 use Rattle.script_world.specs.LearntOutcomes.{Tells}
 use Rattle.script_meaning.specs.StoreAttempts.{done_where, outcomes_told, attempts_ended, act_attempts, ends_at, StoreHasAttempted}
@@ -102,9 +103,9 @@ length-ended attempted [] = refl
 length-ended attempted (outcome ∷ outcomes) = ap suc (length-ended attempted outcomes)
 
 -- a session that asks sees what it saw
-pub begun-sees : (definitions : List Def) (its : Written) (asked : Entry) (before between : Known) → (Ask asked, between) ≡ line_begun definitions before its.line its.from → Sees definitions before → Sees definitions between
+pub begun-sees : (definitions : List Def) (its : Written) (asked : Entry) (before : Known) (between : Session) → (Ask asked, between) ≡ line_begun definitions before its.line its.from → Sees definitions before → Sees definitions between.known
 begun-sees definitions its asked before between begins sees =
-    subst (λ (those : Begun × Known). Sees definitions those.1) (sym begins) (sees-line_begun definitions before its.line its.from sees)
+    subst (λ (those : Begun × Session). Sees definitions those.1.known) (sym begins) (sees-line_begun definitions before its.line its.from sees)
 
 module _ {D : Type 0} (faults clock : D → ℕ) (crash : D → ℕ → List ℕ → Type 0) where
   -- ---- time
@@ -169,7 +170,7 @@ module _ {D : Type 0} (faults clock : D → ℕ) (crash : D → ℕ → List ℕ
   -- ---- a line of a session
 
   -- one that the session answers alone
-  pub said_turned : (definitions : List Def) (names : List (List ℕ)) (its : Written) (answer : Answer) (before after : Known) (store : StoreState D) → (Said answer, after) ≡ line_begun definitions before its.line its.from → Turned faults clock crash definitions names its answer before after store store
+  pub said_turned : (definitions : List Def) (names : List (List ℕ)) (its : Written) (answer : Answer) (before : Known) (after : Session) (store : StoreState D) → (Said answer, after) ≡ line_begun definitions before its.line its.from → Turned faults clock crash definitions names its answer before after.known store store
   said_turned definitions names its answer before after store said = record {
     told = [];
     more = [];
@@ -177,33 +178,33 @@ module _ {D : Type 0} (faults clock : D → ℕ) (crash : D → ℕ → List ℕ
     moves = moves-nothing store;
     turns = λ next opened tried tells.
         ap (turn_from (machine next) definitions names (store_disk opened tried store)) (sym said)
-        ∙ ap (λ those. let it : Turn ObjectsDisk = record { answer = answer; session = after; shared = store_disk opened those store } in it) (sym (append-nil tried));
-    keeps_seen = λ sees. subst (λ (those : Begun × Known). Sees definitions those.1) (sym said) (sees-line_begun definitions before its.line its.from sees);
+        ∙ ap (λ those. let it : Turn ObjectsDisk = record { answer = answer; session = after.known; shared = store_disk opened those store } in it) (sym (append-nil tried));
+    keeps_seen = λ sees. subst (λ (those : Begun × Session). Sees definitions those.1.known) (sym said) (sees-line_begun definitions before its.line its.from sees);
   }
 
-  asked-turn : (definitions : List Def) (names : List (List ℕ)) (its : Written) (asked : Entry) (reply : Reply) (before between : Known) (old new : StoreState D) → (Ask asked, between) ≡ line_begun definitions before its.line its.from → (asks : Asked faults clock crash asked reply old new) → (next : ℕ → Outcome) (opened : Option Decoded) (tried : List (Attempt Decoded)) → Tells next (length tried) asks.told →
-      turn_from (machine next) definitions names (store_disk opened tried old) (line_begun definitions before its.line its.from) ≡ record { answer = (finished definitions names between asked reply).0; session = (finished definitions names between asked reply).1; shared = store_disk opened (tried ++ asks.more) new }
+  asked-turn : (definitions : List Def) (names : List (List ℕ)) (its : Written) (asked : Entry) (reply : Reply) (before : Known) (between : Session) (old new : StoreState D) → (Ask asked, between) ≡ line_begun definitions before its.line its.from → (asks : Asked faults clock crash asked reply old new) → (next : ℕ → Outcome) (opened : Option Decoded) (tried : List (Attempt Decoded)) → Tells next (length tried) asks.told →
+      turn_from (machine next) definitions names (store_disk opened tried old) (line_begun definitions before its.line its.from) ≡ record { answer = (finished definitions names between reply).0; session = (finished definitions names between reply).1; shared = store_disk opened (tried ++ asks.more) new }
   asked-turn definitions names its asked reply before between old new begins asks next opened tried tells =
       ap (turn_from (machine next) definitions names (store_disk opened tried old)) (sym begins)
-      ∙ ap (replied (machine next) definitions names between asked) (asks.step next opened tried tells)
+      ∙ ap (replied (machine next) definitions names between) (asks.step next opened tried tells)
 
   -- an entry that the session answers by its reply
-  pub replied_so : (names : List (List ℕ)) (asked : Entry) (reply : Reply) (answer : Answer) (waits : List ℕ) (before after : Known) (old new : StoreState D) → IsOpen old → Asked faults clock crash asked reply old new → waits ≡ asked_in asked → Allows (definitions_in old) before reply → (answer, after) ≡ finished_by (definitions_in new) names before waits reply → Replied faults clock crash (definitions_in old) names asked answer before after old new
-  replied_so names asked reply answer waits before after old new open_is asks same allows finishes = record {
+  pub replied_so : (names : List (List ℕ)) (asked : Entry) (reply : Reply) (answer : Answer) (waiting : Session) (after : Known) (old new : StoreState D) → IsOpen old → Asked faults clock crash asked reply old new → Allows (definitions_in old) waiting reply → (answer, after) ≡ finished (definitions_in new) names waiting reply → Replied faults clock crash (definitions_in old) names asked answer waiting after old new
+  replied_so names asked reply answer waiting after old new open_is asks allows finishes = record {
     reply = reply;
     asks = asks;
-    finishes = is ∙ ap (λ those. finished_by (definitions_in old) names before those reply) same;
-    keeps_seen = λ sees. subst (λ (those : Answer × Known). Sees (definitions_in old) those.1) (sym is) (sees-finished (definitions_in old) names before waits reply sees allows);
+    finishes = is;
+    keeps_seen = λ sees. subst (λ (those : Answer × Known). Sees (definitions_in old) those.1) (sym is) (sees-finished (definitions_in old) names waiting reply sees allows);
   }
     where
       kept : definitions_in new ≡ definitions_in old
       kept = ap (λ (found : Option (List Def)). unwrap_or found []) (asks.moves.keeps_open open_is.0 open_is.1 ∙ sym open_is.1)
 
-      is : (answer, after) ≡ finished_by (definitions_in old) names before waits reply
-      is = finishes ∙ ap (λ (definitions : List Def). finished_by definitions names before waits reply) kept
+      is : (answer, after) ≡ finished (definitions_in old) names waiting reply
+      is = finishes ∙ ap (λ (definitions : List Def). finished definitions names waiting reply) kept
 
   -- one that asks the store
-  pub replied_turned : (definitions : List Def) (names : List (List ℕ)) (its : Written) (asked : Entry) (answer : Answer) (before between after : Known) (old new : StoreState D) → (Ask asked, between) ≡ line_begun definitions before its.line its.from → Replied faults clock crash definitions names asked answer between after old new → Turned faults clock crash definitions names its answer before after old new
+  pub replied_turned : (definitions : List Def) (names : List (List ℕ)) (its : Written) (asked : Entry) (answer : Answer) (before : Known) (between : Session) (after : Known) (old new : StoreState D) → (Ask asked, between) ≡ line_begun definitions before its.line its.from → Replied faults clock crash definitions names asked answer between after old new → Turned faults clock crash definitions names its answer before after old new
   replied_turned definitions names its asked answer before between after old new begins replied = record {
     told = replied.asks.told;
     more = replied.asks.more;
@@ -215,7 +216,7 @@ module _ {D : Type 0} (faults clock : D → ℕ) (crash : D → ℕ → List ℕ
     keeps_seen = λ sees. replied.keeps_seen (begun-sees definitions its asked before between begins sees);
   }
 
-  pub asked_takes : (definitions : List Def) (names : List (List ℕ)) (its : Written) (asked : Entry) (reply : Reply) (before between : Known) (old new : StoreState D) → (Ask asked, between) ≡ line_begun definitions before its.line its.from → Asked faults clock crash asked reply old new → TurnTakes faults clock crash definitions names its before old new
+  pub asked_takes : (definitions : List Def) (names : List (List ℕ)) (its : Written) (asked : Entry) (reply : Reply) (before : Known) (between : Session) (old new : StoreState D) → (Ask asked, between) ≡ line_begun definitions before its.line its.from → Asked faults clock crash asked reply old new → TurnTakes faults clock crash definitions names its before old new
   asked_takes definitions names its asked reply before between old new begins asks = record {
     told = asks.told;
     more = asks.more;
@@ -226,6 +227,6 @@ module _ {D : Type 0} (faults clock : D → ℕ) (crash : D → ℕ → List ℕ
   }
 
   -- for want of memory there is no answer by the reply
-  pub asked_wants : (definitions : List Def) (names : List (List ℕ)) (its : Written) (asked : Entry) (before between : Known) (old new : StoreState D) → (Ask asked, between) ≡ line_begun definitions before its.line its.from → ReplyWants faults clock crash asked old new → TurnWants faults clock crash definitions names its before old new
+  pub asked_wants : (definitions : List Def) (names : List (List ℕ)) (its : Written) (asked : Entry) (before : Known) (between : Session) (old new : StoreState D) → (Ask asked, between) ≡ line_begun definitions before its.line its.from → ReplyWants faults clock crash asked old new → TurnWants faults clock crash definitions names its before old new
   asked_wants definitions names its asked before between old new begins wants =
       ⊎_elim inl (λ replied. inr (asked_takes definitions names its asked replied.0 before between old new begins replied.1)) wants

@@ -22,7 +22,6 @@ use Rattle.ses_step.specs.declared.session.Begun.{Begun}
 use Rattle.ses_step.specs.declared.session.Begun.TheVariants.{Said, Ask}
 use Rattle.ses_step.specs.declared.answer.Answer.TheVariants.{Done, Shown, Refused}
 use Rattle.aw_cell.specs.declared.cell.Cell.TheVariants.{Int}
-use Rattle.mv_core.specs.declared.entry.Entry.TheVariants as entry
 use Rattle.ses_step.specs.declared.command.Asked.{Asked}
 use Rattle.ses_step.specs.declared.command.Asked.TheVariants as asks
 use Rattle.ses_step.specs.declared.session.Known.{Known}
@@ -30,7 +29,7 @@ use Rattle.ses_step.specs.declared.session.Session.{Session}
 use Rattle.ses_step.specs.declared.line.LineForm.TheVariants.{Definition}
 use Rattle.ses_step.specs.Lines.{opens_block, is_end, line_form}
 use Rattle.ses_step.specs.SessionLines.{asked, begun_as}
-use Rattle.ses_step.specs.Sessions.{Sees, new_session, resting, name_at, located, generation_in, is_single_at, cell_in, with_cell}
+use Rattle.ses_step.specs.Sessions.{Sees, new_session, resting, kept_waiting, name_at, located, is_single_at, cell_in, with_cell}
 use Rattle.script_world.specs.Outcomes.{Outcome, done, Attempt, as_done, all_attempts, attempts_of}
 use Rattle.script_world.specs.Meaning.{Form, nothing, malformed, joins, ends}
 use Rattle.script_world.specs.Worlds.{Answered, answered_so, no_session, silent, defined, defined_so, block_ended, answers, with_session, closed, shared_of, commanded, crowded_out, settled, block_ends, script_ends}
@@ -63,22 +62,28 @@ located-none definitions who name = by_place (object_of definitions name)
     by_place (Some object) = (not_attached, refl)
 
 module _ (next : ℕ → Outcome) (definitions : List Def) (names : List (List ℕ)) (disk : ObjectsDisk) (who : ℕ) where
-  abbrev first_attempts : Begun × Known → List (Attempt Decoded)
+  abbrev first_attempts : Begun × Session → List (Attempt Decoded)
   first_attempts b = attempts_of (Some (turn_from (machine next) definitions names disk b).shared)
+
+  abbrev attempts_by : Command → Begun × Known → List (Attempt Decoded)
+  attempts_by own b = first_attempts (kept_waiting own b)
 
   abbrev single : Result ℕ Refusal → Result ℕ Refusal
   single found = elim found [ Err refusal ↦ Err refusal | Ok object ↦ cond (is_single_at definitions object) (Ok object) (Err no_form) ]
 
   first-turn : (own : Command) → attempts_of (Some (turn (machine next) definitions names disk (new_session who) own).shared) ≡ attempts_of (Some disk)
-  first-turn command.Attach = refl
-  first-turn (command.Acquire name) =
-      ap (λ found. first_attempts (elim found [ Err refusal ↦ (Said (Refused refusal), new_session who) | Ok object ↦ (Ask (entry.Acquire who (generation_in (new_session who) object ∷ []) [] []), new_session who) ])) (located-none definitions who name).1
+  first-turn (command.Attach mode) = refl
   first-turn (command.Assign name value) =
-      ap (λ found. first_attempts (elim (single found) [ Err refusal ↦ (Said (Refused refusal), new_session who) | Ok object ↦ (Said Done, with_cell (new_session who) object (Int value)) ])) (located-none definitions who name).1
-  first-turn command.Update = refl
-  first-turn command.Commit = refl
+      ap (λ found. attempts_by (command.Assign name value) (elim (single found) [ Err refusal ↦ (Said (Refused refusal), new_session who) | Ok object ↦ (Said Done, with_cell (new_session who) object (Int value)) ])) (located-none definitions who name).1
   first-turn (command.Show name) =
-      ap (λ found. first_attempts (elim (single found) [ Err refusal ↦ (Said (Refused refusal), new_session who) | Ok object ↦ (Said (Shown (cell_in (new_session who) object)), new_session who) ])) (located-none definitions who name).1
+      ap (λ found. attempts_by (command.Show name) (elim (single found) [ Err refusal ↦ (Said (Refused refusal), new_session who) | Ok object ↦ (Said (Shown (cell_in (new_session who) object)), new_session who) ])) (located-none definitions who name).1
+  first-turn command.Detach = refl
+  first-turn (command.Acquire keep fresh same) = refl
+  first-turn (command.Resync objects) = refl
+  first-turn (command.Release objects) = refl
+  first-turn (command.Revert objects) = refl
+  first-turn (command.Update objects) = refl
+  first-turn command.Commit = refl
 
   first-line-turn : (its : Written) → attempts_of (Some (line_turn (machine next) definitions names disk (new_session who) its).shared) ≡ attempts_of (Some disk)
   first-line-turn its = by (asked definitions (new_session who) its.line its.from)

@@ -22,8 +22,9 @@ use Rattle.mv_core.specs.Replies.{newer, block, first_block, seen_block, fresh_b
 use Rattle.mv_view.specs.Each.{object_in, numbers_from}
 use Rattle.mv_view.specs.ViewState.{ViewState, kinds_of, kept_kinds, HaveForms}
 use Rattle.mv_view.specs.Rules.{objects_of}
-use Rattle.ses_step.specs.declared.session.Known.{Known}
-use Rattle.ses_step.specs.Sessions.{Sees, Allows}
+use Rattle.ses_step.specs.declared.session.Session.{Session}
+use Rattle.ses_step.specs.Sessions.{Sees, Allows, IsReady}
+use Rattle.ses_step.proofs.callers.ReadySessions.{released_allowed}
 use Rattle.aw_store.specs.Stores.{StoreState, Acts}
 use Rattle.script_play.specs.inside.StoreWorlds.{definitions_in}
 use Rattle.aw_body.proofs.CallerLemmas.{kept-kind}
@@ -79,17 +80,17 @@ all-objects at (def ∷ definitions) (Some it ∷ objects) are =
 
 -- ---- the replies
 
-module _ (definitions : List Def) (objects : List (Option (Object Body))) (are : AreObjectsOf definitions objects) (known : Known) (sees : Sees definitions known) where
+module _ (definitions : List Def) (objects : List (Option (Object Body))) (are : AreObjectsOf definitions objects) (s : Session) (sees : Sees definitions s.known) (ready : IfSome s.asked (IsReady s.known)) where
   -- a reply that blocks hands nothing over
   abbrev Blocks : Option Reply → Type 0
   Blocks None = Unit {0}
-  Blocks (Some reply) = Allows definitions known reply
+  Blocks (Some reply) = Allows definitions s reply
 
   blocks-or : (first second : Option Reply) → Blocks first → Blocks second → Blocks (option_or first second)
   blocks-or None second one two = two
   blocks-or (Some reply) second one two = one
 
-  unwrapped : (found : Option Reply) (reply : Reply) → Blocks found → Allows definitions known reply → Allows definitions known (unwrap_or found reply)
+  unwrapped : (found : Option Reply) (reply : Reply) → Blocks found → Allows definitions s reply → Allows definitions s (unwrap_or found reply)
   unwrapped None reply blocks grants = grants
   unwrapped (Some other) reply blocks grants = blocks
 
@@ -141,42 +142,42 @@ module _ (definitions : List Def) (objects : List (Option (Object Body))) (are :
       by_stranger (Some object) = tt
 
   -- the bodies that a session asked for
-  asked-forms : (named : List ℕ) → IfSome known.view (λ view. HaveForms (kinds_of view) (latest_of objects named))
-  asked-forms named = by_view known.view sees
+  asked-forms : (named : List ℕ) → IfSome s.known.view (λ view. HaveForms (kinds_of view) (latest_of objects named))
+  asked-forms named = by_view s.known.view sees
     where
       by_view : (found : Option ViewState) → IfSome found (λ view. kinds_of view ≡ kept_kinds definitions) → IfSome found (λ view. HaveForms (kinds_of view) (latest_of objects named))
       by_view None same = tt
       by_view (Some view) same = subst (λ (kinds : List (Option DefKind)). HaveForms kinds (latest_of objects named)) (sym same) (latest-forms definitions objects are named)
 
-  reply-allowed : (asked : Entry) → Allows definitions known (reply_of definitions objects asked)
+  reply-allowed : (asked : Entry) → Allows definitions s (reply_of definitions objects asked)
   reply-allowed (Attach who) =
       (all-objects 0 definitions objects are, all-forms (kept_kinds definitions) 0 definitions objects (λ k object is. ap (object_in (kept_kinds definitions)) (let same : object ≡ k = omega arith in same)) are)
   reply-allowed (Acquire who keep fresh same) =
       unwrapped (acquire_block objects who keep fresh same) (Acquired (latest_of objects fresh)) (acquire-blocks who keep fresh same) (asked-forms fresh)
   reply-allowed (Resync who named) = by_unkept (first_unkept objects named)
     where
-      by_unkept : (found : Option ℕ) → Allows definitions known (elim found [ Some object ↦ Stranger object | None ↦ Resynced (latest_of objects named) ])
+      by_unkept : (found : Option ℕ) → Allows definitions s (elim found [ Some object ↦ Stranger object | None ↦ Resynced (latest_of objects named) ])
       by_unkept None = asked-forms named
       by_unkept (Some object) = tt
   reply-allowed (Commit who changes leave) =
       unwrapped (commit_block definitions objects who changes leave) Committed (commit-blocks who changes leave) tt
   reply-allowed (Release who named) = by_stranger (first_not_own objects who named)
     where
-      by_stranger : (found : Option ℕ) → Allows definitions known (elim found [ Some object ↦ Stranger object | None ↦ Released ])
-      by_stranger None = tt
+      by_stranger : (found : Option ℕ) → Allows definitions s (elim found [ Some object ↦ Stranger object | None ↦ Released ])
+      by_stranger None = released_allowed definitions s ready
       by_stranger (Some object) = tt
   reply-allowed (Detach who) = tt
 
-module _ {D : Type 0} (old new : StoreState D) (table : IsTable old.table.definitions old.table.objects) (known : Known) (sees : Sees old.table.definitions known) where
-  act-allowed : (asked : Entry) (reply : Reply) → Acts asked reply old new → Allows old.table.definitions known reply
+module _ {D : Type 0} (old new : StoreState D) (table : IsTable old.table.definitions old.table.objects) (s : Session) (sees : Sees old.table.definitions s.known) (ready : IfSome s.asked (IsReady s.known)) where
+  act-allowed : (asked : Entry) (reply : Reply) → Acts asked reply old new → Allows old.table.definitions s reply
   act-allowed asked (Attached fresh) acts =
-      subst (Allows old.table.definitions known) (sym acts.reply_is) (reply-allowed old.table.definitions old.table.objects table.all known sees asked)
+      subst (Allows old.table.definitions s) (sym acts.reply_is) (reply-allowed old.table.definitions old.table.objects table.all s sees ready asked)
   act-allowed asked (Acquired fresh) acts =
-      subst (Allows old.table.definitions known) (sym acts.reply_is) (reply-allowed old.table.definitions old.table.objects table.all known sees asked)
+      subst (Allows old.table.definitions s) (sym acts.reply_is) (reply-allowed old.table.definitions old.table.objects table.all s sees ready asked)
   act-allowed asked (Resynced fresh) acts =
-      subst (Allows old.table.definitions known) (sym acts.reply_is) (reply-allowed old.table.definitions old.table.objects table.all known sees asked)
+      subst (Allows old.table.definitions s) (sym acts.reply_is) (reply-allowed old.table.definitions old.table.objects table.all s sees ready asked)
   act-allowed asked Committed acts = tt
-  act-allowed asked Released acts = tt
+  act-allowed asked Released acts = released_allowed old.table.definitions s ready
   act-allowed asked Detached acts = tt
   act-allowed asked (Owned object by) acts = tt
   act-allowed asked (Newer object number) acts = tt
@@ -189,4 +190,4 @@ module _ {D : Type 0} (old new : StoreState D) (table : IsTable old.table.defini
 -- a session that sees the store's definitions may take what an act replies
 pub allowed_so : {D : Type 0} (asked : Entry) (reply : Reply) (old new : StoreState D) → old.table.definitions ≡ definitions_in old → IsTable old.table.definitions old.table.objects → Acts asked reply old new → (known : Known) → Sees (definitions_in old) known → Allows (definitions_in old) known reply
 allowed_so asked reply old new same table acts known sees =
-    subst (λ (definitions : List Def). Allows definitions known reply) same (act-allowed old new table known (subst (λ (definitions : List Def). Sees definitions known) (sym same) sees) asked reply acts)
+    subst (λ (definitions : List Def). Allows definitions s reply) same (act-allowed old new table known (subst (λ (definitions : List Def). Sees definitions known) (sym same) sees) asked reply acts)

@@ -1,9 +1,9 @@
-ghost use Rattle.std.specs.Prelude.{◌≡◌, ◌≤◌, IfOk, OnErr, length};
-ghost use Rattle.ses_step.specs.declared.session.Known.{Known as KnownState};
+ghost use Rattle.std.specs.Prelude.{◌≡◌, ◌≤◌, IfOk, IfSome, OnErr, length};
+ghost use Rattle.ses_step.specs.declared.session.Session.{Session as SessionState};
 ghost use Rattle.ses_step.specs.SessionLines.{line_begun};
 ghost use Rattle.ses_step.specs.Sessions as spec;
 ghost use Rattle.script_meaning.specs.Language.{written};
-ghost use Rattle.ses_step.specs.Sessions.{Sees, Allows, asked_in, asked_by};
+ghost use Rattle.ses_step.specs.Sessions.{Sees, Allows, IsReady};
 ghost use Rattle.script_play.specs.inside.StoreWorlds.{definitions_in};
 ghost use Rattle.script_play.specs.inside.LineSteps.{IsOpen, Asked, Replied, ReplyWants, Turned, TurnWants};
 
@@ -17,7 +17,7 @@ use std::alloc::{AllocError, Global};
 /// Asks the store. Want of memory leaves it as it was.
 fn ask<D: Disk>(store: &mut Store<D>, entry: &Entry) -> Result<Reply, AllocError>
     ensures ok { IfOk result (λ reply. Asked D.faults D.clock D.crash entry.now reply store.old store.new) }
-    ensures allowed { IfOk result (λ reply. (known : KnownState) → Sees (definitions_in store.old) known → Allows (definitions_in store.old) known reply) }
+    ensures allowed { IfOk result (λ reply. (s : SessionState) → Sees (definitions_in store.old) s.known → IfSome s.asked (IsReady s.known) → Allows (definitions_in store.old) s reply) }
     ensures err { OnErr result (store.new ≡ store.old) }
 {
     store.recall_invariant();
@@ -39,8 +39,8 @@ fn begin<D: Disk>(
     requires sees { Sees (definitions_in store.now) session.old.known }
     requires short { length line.now ≤ 4096 }
     requires within { from ≤ length line.now }
-    ensures begun { IfOk result (λ begun. (begun, session.new.known) ≡ line_begun (definitions_in store.now) session.old.known line.now from) }
-    ensures keeps { IfOk result (λ begun. session.new.asked ≡ asked_by begun) }
+    ensures begun { IfOk result (λ begun. (begun, session.new) ≡ line_begun (definitions_in store.now) session.old.known line.now from) }
+    ensures ready { IfOk result (λ begun. IfSome session.new.asked (IsReady session.new.known)) }
 {
     match store.catalogue() {
         Some(catalogue) => session.begin(alloc, catalogue, line, from),
@@ -57,8 +57,8 @@ fn finish<D: Disk>(
     reply: Reply,
 ) -> Result<Answer, AllocError>
     requires closed { IsOpen store.now }
-    requires allowed { Allows (definitions_in store.now) session.old.known reply }
-    ensures { IfOk result (λ answer. (answer, session.new.known) ≡ spec.finished_by (definitions_in store.now) names.now session.old.known session.old.asked reply) }
+    requires allowed { Allows (definitions_in store.now) session.old reply }
+    ensures { IfOk result (λ answer. (answer, session.new.known) ≡ spec.finished (definitions_in store.now) names.now session.old reply) }
 {
     match store.catalogue() {
         Some(catalogue) => session.finish(alloc, catalogue, names, reply),
@@ -74,10 +74,10 @@ fn ask_and_finish<D: Disk>(
     session: &mut Session,
     entry: &Entry,
 ) -> Result<Answer, AllocError>
-    requires asked { session.old.asked ≡ asked_in entry.now }
+    requires ready { IfSome session.old.asked (IsReady session.old.known) }
     requires closed { IsOpen store.old }
     requires sees { Sees (definitions_in store.old) session.old.known }
-    ensures ok { IfOk result (λ answer. Replied D.faults D.clock D.crash (definitions_in store.old) names.now entry.now answer session.old.known session.new.known store.old store.new) }
+    ensures ok { IfOk result (λ answer. Replied D.faults D.clock D.crash (definitions_in store.old) names.now entry.now answer session.old session.new.known store.old store.new) }
     ensures err { OnErr result (ReplyWants D.faults D.clock D.crash entry.now store.old store.new) }
 {
     match ask(store, entry) {

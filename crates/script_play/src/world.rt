@@ -223,7 +223,7 @@ impl<D: Disk> StoreWorld<Store<D>> {
         let last = self.names.len();
         self.names.push(name)?;
         if last < MOST_SESSIONS {
-            self.sessions.push(Session::new(alloc, last as u32))
+            self.sessions.push(Session::new(last as u32))
         } else {
             Ok(())
         }

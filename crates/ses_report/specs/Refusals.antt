@@ -76,6 +76,10 @@ definitions_closed = record { number = 21; line = 0; detail = Nothing }
 abbrev pub full : List ℕ → Refusal
 full object = record { number = 22; line = 0; detail = One object }
 
+-- 23: the session is attached for reading alone
+abbrev pub read_only : Refusal
+read_only = record { number = 23; line = 0; detail = Nothing }
+
 -- 24: the line of a program begins with a word that stands in lines of a session alone
 abbrev pub not_in_a_program : Refusal
 not_in_a_program = record { number = 24; line = 0; detail = Nothing }

@@ -168,6 +168,13 @@ impl Refusal {
         Refusal::of(22, Detail::One(object))
     }
 
+    /// Refusal 23: the session is attached for reading alone.
+    pub fn read_only() -> Refusal
+        ensures { result ≡ spec.read_only }
+    {
+        Refusal::of(23, Detail::Nothing)
+    }
+
     /// Refusal 24: a line of a program begins with a word that stands in lines of a session alone.
     pub fn not_in_a_program() -> Refusal
         ensures { result ≡ spec.not_in_a_program }

@@ -4,6 +4,9 @@ mod Worked
 pub mod Seeing
 pub mod OnePage
 pub mod Begins
-mod FaultsTold
+mod SessionChecks
+mod Parts
+mod ReadyOnes
+mod SeenObjects
 pub mod AnswerLines
 pub mod callers

@@ -1,5 +1,5 @@
 -- Worked cases: what a line is, and what one session's commands do, by computation.
-use Rattle.std.specs.Prelude.{ℕ, ℤ, ◌≡◌, ◌++◌, true, false, List, [], ◌∷◌, codes, pos}
+use Rattle.std.specs.Prelude.{ℕ, ℤ, ◌≡◌, ◌++◌, true, false, List, [], ◌∷◌, codes, pos, Option, Some}
 use Rattle.std.proofs.Common.{refl}
 use Rattle.aw_cell.specs.declared.cell.Cell.TheVariants.{Int}
 use Rattle.aw_cell.specs.declared.cell.Kind.TheVariants.{Int as Integer}
@@ -17,7 +17,8 @@ use Rattle.ses_report.specs.Refusals.{no_form, syntax, bad_line, not_attached, a
 use Rattle.ses_step.specs.declared.answer.Answer.{Answer}
 use Rattle.ses_step.specs.declared.answer.Answer.TheVariants.{Done, Shown, Refused}
 use Rattle.ses_step.specs.declared.command.Command.{Command}
-use Rattle.ses_step.specs.declared.command.Command.TheVariants.{Attach, Acquire, Assign, Update, Commit, Show}
+use Rattle.dml_tree.specs.declared.statement.Mode.TheVariants.{Multi, ReadOnly}
+use Rattle.ses_step.specs.declared.command.Command.TheVariants.{Attach, Detach, Acquire, Release, Revert, Assign, Update, Commit, Show}
 use Rattle.ses_step.specs.declared.line.LineForm.TheVariants as line
 use Rattle.ses_step.specs.declared.session.Begun.{Begun}
 use Rattle.ses_step.specs.declared.session.Begun.TheVariants.{Said, Ask}
@@ -86,10 +87,10 @@ holding value = Var (record { slots = 0; kind = Integer; cells = ([], Int value)
 generation : ℕ → ℕ → Body → Fresh
 generation object number body = record { object = object; number = number; body = body }
 
-answered : Known → Reply → List ℕ → Answer
+answered : Known → Reply → Option Command → Answer
 answered s given asked = (finished_by all (codes "a" ∷ codes "b" ∷ []) s asked given).0
 
-after : Known → Reply → List ℕ → Known
+after : Known → Reply → Option Command → Known
 after s given asked = (finished_by all (codes "a" ∷ codes "b" ∷ []) s asked given).1
 
 said : Known → Command → Begun
@@ -100,24 +101,28 @@ then s command = (begun all s command).1
 
 -- session 1 is attached, and v is 5 in its generation 3
 attached : Known
-attached = after (new_session 1) (reply.Attached (generation 0 3 (holding (pos 5)) ∷ generation 1 1 (Set (7 ∷ [])) ∷ [])) []
+attached = after (new_session 1) (reply.Attached (generation 0 3 (holding (pos 5)) ∷ generation 1 1 (Set (7 ∷ [])) ∷ [])) (Some (Attach Multi))
+
+-- it acquires v
+acquires : Command
+acquires = Acquire (0 ∷ []) [] []
 
 -- it has acquired v and written 8 into it
 written : Known
-written = then (after attached (reply.Acquired []) (0 ∷ [])) (Assign v (pos 8))
+written = then (after attached (reply.Acquired []) (Some acquires)) (Assign v (pos 8))
 
 staged : Known
-staged = then written Update
+staged = then written (Update [])
 
 unattached : said (new_session 1) (Show v) ≡ Said (Refused not_attached)
 unfolding said all defined v
 unattached = refl
 
-attaches : said (new_session 1) Attach ≡ Ask (entry.Attach 1)
+attaches : said (new_session 1) (Attach ReadOnly) ≡ Ask (entry.Attach 1)
 unfolding said
 attaches = refl
 
-attached_twice : said attached Attach ≡ Said (Refused already_attached)
+attached_twice : said attached (Attach Multi) ≡ Said (Refused already_attached)
 unfolding said attached after
 attached_twice = refl
 
@@ -126,7 +131,7 @@ unfolding said attached after all defined v generation holding
 shown = refl
 
 -- an object that is no single INTEGER variable may be acquired, and isn't shown
-valueset_acquired : said attached (Acquire (codes "chosen")) ≡ Ask (entry.Acquire 1 (record { object = 1; number = 1 } ∷ []) [] [])
+valueset_acquired : said attached (Acquire (1 ∷ []) [] []) ≡ Ask (entry.Acquire 1 (record { object = 1; number = 1 } ∷ []) [] [])
 unfolding said attached after all defined v generation holding
 valueset_acquired = refl
 
@@ -134,44 +139,71 @@ valueset_shown : said attached (Show (codes "chosen")) ≡ Said (Refused no_form
 unfolding said attached after all defined v generation holding
 valueset_shown = refl
 
--- a formula isn't kept
-formula_acquired : said attached (Acquire (codes "f")) ≡ Said (Refused no_form)
-unfolding said attached after all defined v generation holding
-formula_acquired = refl
-
 -- a session reads what it wrote, and commits what it staged
 written_shown : said written (Show v) ≡ Said (Shown (Int (pos 8)))
-unfolding said written then attached after all defined v generation holding
+unfolding said written then acquires attached after all defined v generation holding
 written_shown = refl
 
 nothing_staged : said written Commit ≡ Said Done
-unfolding said written then attached after all defined v generation holding
+unfolding said written then acquires attached after all defined v generation holding
 nothing_staged = refl
 
 change_asked : said staged Commit ≡ Ask (entry.Commit 1 (record { object = 0; patch = CellPatch (([], Int (pos 8)) ∷ []) } ∷ []) [])
-unfolding said staged written then attached after all defined v generation holding
+unfolding said staged written then acquires attached after all defined v generation holding
 change_asked = refl
 
 -- what isn't owned isn't staged
-unowned : said (then (then attached (Assign v (pos 8))) Update) Commit ≡ Said Done
+unowned : said (then (then attached (Assign v (pos 8))) (Update [])) Commit ≡ Said Done
 unfolding said then attached after all defined v generation holding
 unowned = refl
 
 -- behind the commit the generation is the next one, and nothing is staged
-committed_acquired : said (after staged reply.Committed []) (Acquire v) ≡ Ask (entry.Acquire 1 (record { object = 0; number = 4 } ∷ []) [] [])
-unfolding said staged written then attached after all defined v generation holding
+committed_acquired : said (after staged reply.Committed (Some Commit)) acquires ≡ Ask (entry.Acquire 1 (record { object = 0; number = 4 } ∷ []) [] [])
+unfolding said staged written then acquires attached after all defined v generation holding
 committed_acquired = refl
 
-committed_twice : said (after staged reply.Committed []) Commit ≡ Said Done
-unfolding said staged written then attached after all defined v generation holding
+committed_twice : said (after staged reply.Committed (Some Commit)) Commit ≡ Said Done
+unfolding said staged written then acquires attached after all defined v generation holding
 committed_twice = refl
+
+-- ---- giving up, and taking back
+
+-- where nothing is staged the shared state is asked, and elsewhere the object is left by the next commit
+given_up : said written (Release (0 ∷ [])) ≡ Ask (entry.Release 1 (0 ∷ []))
+unfolding said then staged written acquires attached after all defined v generation holding
+given_up = refl
+
+left_later : said staged (Release (0 ∷ [])) ≡ Said Done
+unfolding said then staged written acquires attached after all defined v generation holding
+left_later = refl
+
+leaving_asked : said (then staged (Release (0 ∷ []))) Commit ≡ Ask (entry.Commit 1 (record { object = 0; patch = CellPatch (([], Int (pos 8)) ∷ []) } ∷ []) (0 ∷ []))
+unfolding said then staged written acquires attached after all defined v generation holding
+leaving_asked = refl
+
+-- nothing is staged any more, and it leaves all the same
+leaving_alone : said (then (then (then staged (Release (0 ∷ []))) (Assign v (pos 5))) (Update [])) Commit ≡ Ask (entry.Commit 1 [] (0 ∷ []))
+unfolding said then staged written acquires attached after all defined v generation holding
+leaving_alone = refl
+
+taken_back : said (then written (Revert [])) (Show v) ≡ Said (Shown (Int (pos 5)))
+unfolding said then staged written acquires attached after all defined v generation holding
+taken_back = refl
+
+staged_kept : said (then staged (Revert [])) (Show v) ≡ Said (Shown (Int (pos 8)))
+unfolding said then staged written acquires attached after all defined v generation holding
+staged_kept = refl
+
+left : said (after attached reply.Detached (Some Detach)) (Show v) ≡ Said (Refused not_attached)
+unfolding said then staged written acquires attached after all defined v generation holding
+left = refl
 
 -- ---- refusals by the reply
 
-too_long : answered staged (reply.TooLarge 67108865) [] ≡ Refused too_large
+too_long : answered staged (reply.TooLarge 67108865) (Some Commit) ≡ Refused too_large
 unfolding answered
 too_long = refl
 
-newer_elsewhere : answered attached (reply.Newer 0 9) (0 ∷ []) ≡ Refused (newer v 9)
+newer_elsewhere : answered attached (reply.Newer 0 9) (Some acquires) ≡ Refused (newer v 9)
 unfolding answered all defined v
 newer_elsewhere = refl

@@ -1,3 +1,4 @@
 -- Lemmas that are offered to the crates above.
 pub mod SessionPlaces
 pub mod ViewsOfDefinitions
+pub mod ReadySessions

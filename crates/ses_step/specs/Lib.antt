@@ -7,4 +7,3 @@ pub mod Sessions
 pub mod Refusing
 pub mod SessionLines
 pub mod Kept
-pub mod inside

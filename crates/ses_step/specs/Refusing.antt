@@ -1,7 +1,7 @@
 -- Why a session's statement is refused before it runs. The first of these decides: the session isn't attached (15), or for AW
--- ATTACH is (16); names (2, 3, 7); what the session owns (19, 20), or types, dimensions and weight (4, 5, 14), of which no
--- statement has both; and a fixed value that its dimension lacks (6).
-use Rattle.std.specs.Prelude.{ℕ, Bool, false, not, List, [], ◌∷◌, length, drop, find, Option, Some, None, is_some, Result, Ok, Err}
+-- ATTACH is (16); it is attached for reading alone (23); names (2, 3, 7); what the session owns (19, 20), or types, dimensions and
+-- weight (4, 5, 14), of which no statement has both; and a fixed value that its dimension lacks (6).
+use Rattle.std.specs.Prelude.{ℕ, Bool, true, false, not, cond, map, List, [], ◌∷◌, length, drop, find, Option, Some, None, is_some, Result, Ok, Err}
 use Rattle.std.specs.Option.{option_map, option_or}
 use Rattle.aw_schema.specs.declared.definition.Def.{Def}
 use Rattle.aw_schema.specs.Definitions as definition
@@ -12,6 +12,8 @@ use Rattle.mv_view.specs.ViewState.{ObjectView}
 use Rattle.dml_tree.specs.declared.expr.Fix.{Fix}
 use Rattle.dml_tree.specs.declared.expr.Expr.{Expr, fold-Expr}
 use Rattle.dml_tree.specs.declared.expr.Expr.TheOpen.{Expr-F}
+use Rattle.dml_tree.specs.declared.statement.Mode.{Mode}
+use Rattle.dml_tree.specs.declared.statement.Mode.TheVariants.{Multi, ReadOnly}
 use Rattle.dml_tree.specs.declared.statement.Select.{Select}
 use Rattle.dml_tree.specs.declared.statement.Select.TheVariants as select
 use Rattle.dml_tree.specs.declared.statement.Statement.{Statement}
@@ -22,7 +24,7 @@ use Rattle.dml_kinds.specs.Meanings.{names_in}
 use Rattle.dml_types.specs.declared.checking.Typed.{Typed}
 use Rattle.dml_types.specs.Checking.{statement_answer}
 use Rattle.ses_report.specs.declared.refusal.Refusal.{Refusal}
-use Rattle.ses_report.specs.Refusals.{no_form, unknown, wrong_kind, types_differ, dimensions_differ, no_value, repeated, too_many, not_attached, already_attached, not_acquired, acquired}
+use Rattle.ses_report.specs.Refusals.{no_form, unknown, wrong_kind, types_differ, dimensions_differ, no_value, repeated, too_many, not_attached, already_attached, not_acquired, acquired, read_only}
 use Rattle.ses_step.specs.declared.session.Known.{Known}
 use Rattle.ses_step.specs.Sessions.{seen_in}
 
@@ -31,6 +33,24 @@ use Rattle.ses_step.specs.Sessions.{seen_in}
 abbrev pub attachment_refusal : Known → Statement → Option Refusal
 attachment_refusal s (statement.Attach mode) = elim s.view [ None ↦ None | Some view ↦ Some already_attached ]
 attachment_refusal s _ = elim s.view [ None ↦ Some not_attached | Some view ↦ None ]
+
+-- ---- attached for reading alone
+
+-- what acquires, gives up or publishes, and MAINTAIN, which needs its dimension owned
+abbrev pub publishes : Statement → Bool
+publishes (statement.Acquire keep fresh same) = true
+publishes (statement.Release l) = true
+publishes (statement.Update l) = true
+publishes statement.Commit = true
+publishes (statement.Add dimension l place) = true
+publishes (statement.Delete dimension l) = true
+publishes (statement.Move dimension l place) = true
+publishes (statement.Rename dimension was text) = true
+publishes _ = false
+
+abbrev pub mode_refusal : Mode → Statement → Option Refusal
+mode_refusal Multi s = None
+mode_refusal ReadOnly s = cond (publishes s) (Some read_only) None
 
 -- ---- names and types
 
@@ -47,6 +67,14 @@ told NoMemory = no_form
 -- a statement of a session, which has no locals; no object has a text yet
 abbrev pub checked : List Def → Statement → Result Typed TypeFault
 checked definitions s = statement_answer (names_in definitions [] []) [] s
+
+-- the objects that an accepted statement names outside of expressions, in the order written
+abbrev pub objects_of : Result Typed TypeFault → List ℕ
+objects_of (Err fault) = []
+objects_of (Ok typed) = map (λ (named : List ℕ × ℕ). named.1) typed.objects
+
+abbrev pub objects_named : List Def → Statement → List ℕ
+objects_named definitions s = objects_of (checked definitions s)
 
 -- ---- what the session owns
 
@@ -135,4 +163,5 @@ module _ (definitions : List Def) (s : Known) where
   checked_refusal statement (Ok typed) = option_or (held_refusal s statement typed.objects) (option_map no_value (missing statement))
 
   abbrev pub statement_refusal : Statement → Option Refusal
-  statement_refusal statement = option_or (attachment_refusal s statement) (checked_refusal statement (checked definitions statement))
+  statement_refusal statement =
+      option_or (attachment_refusal s statement) (option_or (mode_refusal s.mode statement) (checked_refusal statement (checked definitions statement)))

@@ -14,9 +14,10 @@ use Rattle.ses_step.specs.declared.command.Command.{Command}
 use Rattle.ses_step.specs.declared.session.Begun.{Begun}
 use Rattle.ses_step.specs.declared.session.Begun.TheVariants.{Said}
 use Rattle.ses_step.specs.declared.session.Known.{Known}
+use Rattle.ses_step.specs.declared.session.Session.{Session}
 use Rattle.ses_step.specs.Commands.{command_of}
-use Rattle.ses_step.specs.Refusing.{statement_refusal}
-use Rattle.ses_step.specs.Sessions.{begun}
+use Rattle.ses_step.specs.Refusing.{statement_refusal, objects_named}
+use Rattle.ses_step.specs.Sessions.{begun, resting, kept_waiting, IsReady}
 
 -- a fault of the tokens or the grammar; want of memory is none
 abbrev pub parse_refusal : ParseFault → Refusal
@@ -29,22 +30,27 @@ abbrev pub runs : Option Command → Asked
 runs (Some command) = Runs command
 runs None = Refused no_form
 
-abbrev pub asked_unless : Option Refusal → Statement → Asked
-asked_unless (Some refusal) statement = Refused refusal
-asked_unless None statement = runs (command_of statement)
+abbrev pub asked_unless : List Def → Option Refusal → Statement → Asked
+asked_unless definitions (Some refusal) statement = Refused refusal
+asked_unless definitions None statement = runs (command_of statement (objects_named definitions statement))
 
 abbrev pub asked_by : List Def → Known → Result Statement ParseFault → Asked
 asked_by definitions s (Err fault) = Refused (parse_refusal fault)
-asked_by definitions s (Ok statement) = asked_unless (statement_refusal definitions s statement) statement
+asked_by definitions s (Ok statement) = asked_unless definitions (statement_refusal definitions s statement) statement
 
 -- the command that a line asks for, whose statement stands from this place on, or why it is refused
 abbrev pub asked : List Def → Known → List ℕ → ℕ → Asked
 asked definitions s line from = asked_by definitions s (statement_in line from)
 
--- a refusal leaves the session as it was
-abbrev pub begun_as : List Def → Known → Asked → Begun × Known
-begun_as definitions s (Refused refusal) = (Said (answer.Refused refusal), s)
-begun_as definitions s (Runs command) = begun definitions s command
+-- what a command stages or gives up the session owns
+abbrev pub IsReadyFor : Known → Asked → Type 0
+IsReadyFor s (Refused refusal) = Unit {0}
+IsReadyFor s (Runs command) = IsReady s command
 
-abbrev pub line_begun : List Def → Known → List ℕ → ℕ → Begun × Known
+-- a refusal leaves the session as it was
+abbrev pub begun_as : List Def → Known → Asked → Begun × Session
+begun_as definitions s (Refused refusal) = (Said (answer.Refused refusal), resting s)
+begun_as definitions s (Runs command) = kept_waiting command (begun definitions s command)
+
+abbrev pub line_begun : List Def → Known → List ℕ → ℕ → Begun × Session
 line_begun definitions s line from = begun_as definitions s (asked definitions s line from)

@@ -10,6 +10,7 @@ mod names;
 mod objects;
 mod refusing;
 mod session;
+mod sharing;
 mod word;
 
 pub use answer::{Answer, append_line};

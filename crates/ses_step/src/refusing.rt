@@ -1,17 +1,19 @@
 //! Why a statement is refused before it runs.
 
-ghost use Rattle.std.specs.Prelude.{◌≡◌, IfOk, IsErr, Ok, Some, drop};
+ghost use Rattle.std.specs.Prelude.{◌≡◌, IfOk, IsErr, Ok, drop, map};
 ghost use Rattle.dml_kinds.specs.Checking.{IsAnswer};
 ghost use Rattle.ses_step.specs.Refusing as spec;
+ghost use Rattle.ses_step.specs.SessionLines as line_spec;
 ghost use Rattle.ses_step.specs.Sessions.{Sees};
 
+use crate::command::{Asked, command_of, runs};
 use crate::objects::is_seen;
 use crate::session::Known;
 use aw_body::Body;
 use aw_cell::Text;
 use aw_lists::List;
 use aw_schema::Catalogue;
-use dml_tree::{Expr, Fix, Select, Statement};
+use dml_tree::{Expr, Fix, Mode, Select, Statement};
 use dml_types::{Signatures, TypeFault, Typed, check};
 use ses_report::Refusal;
 use std::alloc::{AllocError, Global};
@@ -40,15 +42,39 @@ fn checked(alloc: Global, catalogue: &Catalogue, statement: &Statement) -> Resul
     check(alloc, statement, catalogue, &known, &locals)
 }
 
-/// Why a statement with such a fault is refused. The only error is want of memory.
-fn refused_by(fault: TypeFault) -> Result<Option<Refusal>, AllocError>
-    ensures value { IfOk result (λ refusal. refusal ≡ Some (spec.told fault)) }
+/// What a statement with such a fault asks for. The only error is want of memory.
+fn refused_by(fault: TypeFault) -> Result<Asked, AllocError>
+    ensures value { IfOk result (λ asked. asked ≡ Asked.Refused (spec.told fault)) }
     ensures memory { fault ≡ TypeFault.NoMemory → IsErr result }
 {
     match fault {
         TypeFault::NoMemory => Err(AllocError),
-        fault => Ok(Some(types_refusal(fault))),
+        fault => Ok(Asked::Refused(types_refusal(fault))),
     }
+}
+
+/// The numbers of objects that stand with their names.
+fn numbers(alloc: Global, objects: &[(Text, u16)]) -> Result<Vec<u16>, AllocError>
+    ensures { IfOk result (λ numbers. numbers.items ≡ map (λ named. named.1) objects.now) }
+{
+    objects.iter().map(|named| named.1).collect(alloc)
+}
+
+/// Whether a statement acquires, gives up or publishes, or changes a dimension that is owned.
+fn publishes(statement: &Statement) -> bool
+    ensures { result ≡ spec.publishes statement.now }
+{
+    matches!(
+        statement,
+        Statement::Acquire(..)
+            | Statement::Release(_)
+            | Statement::Update(_)
+            | Statement::Commit
+            | Statement::Add(..)
+            | Statement::Delete(..)
+            | Statement::Move(..)
+            | Statement::Rename(..)
+    )
 }
 
 /// Whether a body is of a dimension that has this value.
@@ -74,6 +100,21 @@ impl Known {
                 None => Some(Refusal::not_attached()),
                 Some(_) => None,
             },
+        }
+    }
+
+    fn mode_refusal(&self, statement: &Statement) -> Option<Refusal>
+        ensures { result ≡ spec.mode_refusal self.now.mode statement.now }
+    {
+        match self.mode {
+            Mode::Multi => None,
+            Mode::ReadOnly => {
+                if publishes(statement) {
+                    Some(Refusal::read_only())
+                } else {
+                    None
+                }
+            }
         }
     }
 
@@ -235,40 +276,69 @@ impl Known {
         }
     }
 
-    /// Why a statement of an attached session is refused, the first of what follows.
-    fn typed_refusal(
+    /// What a statement asks for that passed the tests of names and types.
+    fn asked_typed(
         &self,
         alloc: Global,
         catalogue: &Catalogue,
         statement: &Statement,
-    ) -> Result<Option<Refusal>, AllocError>
+        typed: &Typed,
+    ) -> Result<Asked, AllocError>
+        requires sees { Sees catalogue.now self.now }
+        requires checked { spec.checked catalogue.now statement.now ≡ Ok typed.now }
+        ensures asked { IfOk result (λ asked. asked ≡ line_spec.asked_unless catalogue.now
+            (spec.checked_refusal catalogue.now self.now statement.now (Ok typed.now)) statement.now) }
+        ensures ready { IfOk result (λ asked. line_spec.IsReadyFor self.now asked) }
+    {
+        match self.checked_refusal(catalogue, statement, typed) {
+            Some(refusal) => Ok(Asked::Refused(refusal)),
+            None => {
+                let objects = numbers(alloc, typed.objects.as_slice())?;
+                Ok(runs(command_of(alloc, statement, &objects)?))
+            }
+        }
+    }
+
+    /// What a statement asks for whose session may give it.
+    fn asked_checked(
+        &self,
+        alloc: Global,
+        catalogue: &Catalogue,
+        statement: &Statement,
+    ) -> Result<Asked, AllocError>
         requires { Sees catalogue.now self.now }
-        ensures { IfOk result (λ refusal. refusal ≡
-            spec.checked_refusal catalogue.now self.now statement.now (spec.checked catalogue.now statement.now)) }
+        ensures asked { IfOk result (λ asked. asked ≡ line_spec.asked_unless catalogue.now
+            (spec.checked_refusal catalogue.now self.now statement.now (spec.checked catalogue.now statement.now)) statement.now) }
+        ensures ready { IfOk result (λ asked. line_spec.IsReadyFor self.now asked) }
     {
         match checked(alloc, catalogue, statement) {
-            Ok(typed) => Ok(self.checked_refusal(catalogue, statement, &typed)),
+            Ok(typed) => self.asked_typed(alloc, catalogue, statement, &typed),
             Err(fault) => refused_by(fault),
         }
     }
 
-    /// Why a statement is refused before it runs, the first of these: a session that isn't attached
-    /// (15), or for AW ATTACH one that is (16); an unknown name (2), an object of a wrong kind (3) or
-    /// a name that comes twice (7); an object that the session owns (20) or doesn't own (19); types
-    /// (4) or dimensions (5) that don't fit, or too much weight (14); a fixed value that its dimension
-    /// lacks (6). The only error is want of memory.
-    pub fn refusal(
+    /// What a statement asks for, or why it is refused before it runs, the first of these: a session
+    /// that isn't attached (15), or for AW ATTACH one that is (16); a session that is attached for
+    /// reading alone (23); an unknown name (2), an object of a wrong kind (3) or a name that comes
+    /// twice (7); an object that the session owns (20) or doesn't own (19); types (4) or dimensions (5)
+    /// that don't fit, or too much weight (14); a fixed value that its dimension lacks (6); and a
+    /// statement that doesn't run yet (1). The only error is want of memory.
+    pub(crate) fn asked_by(
         &self,
         alloc: Global,
         catalogue: &Catalogue,
         statement: &Statement,
-    ) -> Result<Option<Refusal>, AllocError>
+    ) -> Result<Asked, AllocError>
         requires { Sees catalogue.now self.now }
-        ensures { IfOk result (λ refusal. refusal ≡ spec.statement_refusal catalogue.now self.now statement.now) }
+        ensures asked { IfOk result (λ asked. asked ≡ line_spec.asked_by catalogue.now self.now (Ok statement.now)) }
+        ensures ready { IfOk result (λ asked. line_spec.IsReadyFor self.now asked) }
     {
-        match self.attachment_refusal(statement) {
-            Some(refusal) => Ok(Some(refusal)),
-            None => self.typed_refusal(alloc, catalogue, statement),
+        if let Some(refusal) = self.attachment_refusal(statement) {
+            return Ok(Asked::Refused(refusal));
+        }
+        match self.mode_refusal(statement) {
+            Some(refusal) => Ok(Asked::Refused(refusal)),
+            None => self.asked_checked(alloc, catalogue, statement),
         }
     }
 }

@@ -1,37 +1,36 @@
-ghost use Rattle.std.specs.Prelude.{◌≡◌, ◌≤◌, [], ◌∷◌, length, map, IfOk, IsErr, IsSome, Ok, OnErr, OnOk};
+ghost use Rattle.std.specs.Prelude.{◌≡◌, ◌≤◌, [], ◌∷◌, length, IfOk, IfSome, IsErr, IsSome, None, Ok, OnErr, OnOk};
 ghost use Rattle.std.specs.Option.{IsSomeAnd};
 ghost use Rattle.aw_cell.specs.declared.cell.Cell.TheVariants.{Int};
 ghost use Rattle.aw_schema.specs.declared.definition.DefKind.TheVariants.{Variable};
 ghost use Rattle.aw_cell.specs.declared.cell.Kind.TheVariants.{Int as Integer};
-ghost use Rattle.mv_core.specs.declared.entry.Reply.TheVariants.{Acquired, Attached, Committed, NoMemory, Resynced};
-ghost use Rattle.mv_view.specs.ViewState.{object_of as seen_of, owned_objects};
+ghost use Rattle.mv_core.specs.declared.entry.Reply.TheVariants.{Acquired, Attached, Committed, Detached, NoMemory, Released, Resynced};
+ghost use Rattle.mv_view.specs.ViewState.{object_of as seen_of};
 ghost use Rattle.mv_view.specs.Rules as rule;
 ghost use Rattle.ses_step.specs.declared.answer.Answer.TheVariants.{Refused};
-ghost use Rattle.ses_step.specs.declared.command.Command.TheVariants.{Attach, Acquire, Assign, Update, Commit, Show};
 ghost use Rattle.ses_step.specs.declared.session.Begun.TheVariants.{Said};
 ghost use Rattle.ses_step.specs.SessionLines as line_spec;
 ghost use Rattle.ses_step.specs.Sessions as spec;
-ghost use Rattle.ses_step.specs.inside.AskedEntries.{AsksToOwn};
 
 use crate::answer::Answer;
-use crate::command::{Asked, Command, command_of, runs};
+use crate::command::{Asked, Command};
 use crate::objects::{is_seen, is_single_at, name_at, name_of, no_slots};
 use aw_cell::{Cell, Text};
 use aw_lists::List;
 use aw_schema::Catalogue;
 use dml_lines::{ParseFault, statement_in};
-use dml_tree::Statement;
+use dml_tree::Mode;
 use mv_core::{Entry, Fresh, Reply, Seen};
 use mv_view::{View, ViewFault};
 use ses_report::Refusal;
 use std::alloc::{AllocError, Global};
-use std::mem;
 
 /// What one session knows: its number, and what it sees of the workspace (docs/SHARING.md).
 #[derive(Drop)]
 pub struct Known {
     /// The session's number, by which the shared state knows it.
     pub who: u32,
+    /// How it attached last.
+    pub mode: Mode,
     /// Its view of the objects, once the session is attached.
     pub view: Option<View>,
 }
@@ -41,8 +40,8 @@ pub struct Known {
 pub struct Session {
     /// What the session knows, which no wait changes.
     pub known: Known,
-    /// The objects that it waits to own with the bodies that it has, by their numbers.
-    pub asked: List<u16>,
+    /// The command that waits for its reply.
+    pub asked: Option<Command>,
 }
 
 /// What a command comes to.
@@ -54,7 +53,7 @@ pub enum Begun {
     Ask(Entry),
 }
 
-fn refused(refusal: Refusal) -> Begun
+pub fn refused(refusal: Refusal) -> Begun
     ensures { result ≡ Said (Refused refusal) }
 {
     Begun::Said(Answer::Refused(refusal))
@@ -82,29 +81,6 @@ fn refused_by(fault: ParseFault) -> Result<Asked, AllocError>
     }
 }
 
-fn objects(alloc: Global, seen: &[Seen]) -> Result<Vec<u16>, AllocError>
-    ensures { IfOk result (λ objects. objects.items ≡ map (λ one. one.object) seen.now) }
-{
-    seen.iter().map(|seen| seen.object).collect(alloc)
-}
-
-/// The objects of which these are generations.
-fn objects_of(alloc: Global, seen: &[Seen]) -> Result<List<u16>, AllocError>
-    ensures { IfOk result (λ objects. objects ≡ map (λ one. one.object) seen.now) }
-{
-    Ok(List::from_vec(objects(alloc, seen)?))
-}
-
-/// Stages the private bodies of all objects that the session owns.
-#[tactic(auto, using(crate::proofs::Seeing::owned_listed))]
-fn update_owned(alloc: Global, view: &mut View) -> Result<(), AllocError>
-    ensures ok { OnOk result (view.new ≡ rule.updated view.old (owned_objects view.old)) }
-    ensures err { OnErr result (view.new ≡ view.old) }
-{
-    let owned = List::from_slice(alloc, view.owned_objects())?;
-    view.update(&owned)
-}
-
 /// Writes the one cell of an INTEGER variable without dimensions.
 #[tactic(auto, using(crate::proofs::OnePage::one_page))]
 fn write_cell(alloc: Global, view: &mut View, object: u16, value: i32) -> Result<(), AllocError>
@@ -122,16 +98,35 @@ fn write_cell(alloc: Global, view: &mut View, object: u16, value: i32) -> Result
     }
 }
 
-impl Begun {
-    /// The objects that the session asks to own with the bodies that it has.
-    fn asked(&self, alloc: Global) -> Result<List<u16>, AllocError>
-        ensures value { IfOk result (λ asked. asked ≡ spec.asked_by self.now) }
-        ensures err { OnErr result (AsksToOwn self.now) }
-    {
-        match self {
-            Begun::Ask(Entry::Acquire { keep, .. }) => objects_of(alloc, keep.as_slice()),
-            _ => Ok(List::new(alloc)),
-        }
+/// How a session asked to attach.
+fn mode_asked(asked: &Option<Command>) -> Mode
+    ensures { result ≡ spec.mode_asked asked.now }
+{
+    match asked {
+        Some(Command::Attach(mode)) => *mode,
+        _ => Mode::Multi,
+    }
+}
+
+/// The objects that it asked to own with the bodies that it has.
+fn kept_asked<'a>(asked: &'a Option<Command>, none: &'a List<u16>) -> &'a List<u16>
+    requires { none.now ≡ [] }
+    ensures { result.now ≡ spec.kept_asked asked.now }
+{
+    match asked {
+        Some(Command::Acquire { keep, .. }) => keep,
+        _ => none,
+    }
+}
+
+/// The objects that it is giving up.
+fn given_asked<'a>(asked: &'a Option<Command>, none: &'a List<u16>) -> &'a List<u16>
+    requires { none.now ≡ [] }
+    ensures { result.now ≡ spec.given_asked asked.now }
+{
+    match asked {
+        Some(Command::Release(objects)) => objects,
+        _ => none,
     }
 }
 
@@ -139,7 +134,11 @@ impl Known {
     fn new(who: u32) -> Known
         ensures { result ≡ spec.new_session who }
     {
-        Known { who, view: None }
+        Known {
+            who,
+            mode: Mode::Multi,
+            view: None,
+        }
     }
 
     fn located(&self, catalogue: &Catalogue, name: &Text) -> Result<u16, Refusal>
@@ -173,50 +172,12 @@ impl Known {
         }
     }
 
-    fn attach(&self) -> Begun
-        ensures { (result, self.now) ≡ spec.begun [] self.now Attach }
+    fn attach(&self, mode: Mode) -> Begun
+        ensures { (result, self.now) ≡ spec.begun [] self.now (Command.Attach mode) }
     {
         match &self.view {
             None => Begun::Ask(Entry::Attach { who: self.who }),
             Some(_) => refused(Refusal::already_attached()),
-        }
-    }
-
-    /// The generation that the session has of an object.
-    fn generation(&self, object: u16) -> Seen
-        requires { IsSome (spec.seen_in self.now object) }
-        ensures { result ≡ spec.generation_in self.now object }
-    {
-        match &self.view {
-            Some(view) => Seen {
-                object,
-                number: view.number(object),
-            },
-            None => unreachable!(),
-        }
-    }
-
-    fn acquire(
-        &self,
-        alloc: Global,
-        catalogue: &Catalogue,
-        name: &Text,
-    ) -> Result<Begun, AllocError>
-        requires { spec.Sees catalogue.now self.now }
-        ensures { IfOk result (λ begun.
-            (begun, self.now) ≡ spec.begun catalogue.now self.now (Acquire name.now)) }
-    {
-        match self.located(catalogue, name) {
-            Err(refusal) => Ok(refused(refusal)),
-            Ok(object) => {
-                let keep = List::from_slice(alloc, &[self.generation(object)])?;
-                Ok(Begun::Ask(Entry::Acquire {
-                    who: self.who,
-                    keep,
-                    fresh: List::new(alloc),
-                    same: List::new(alloc),
-                }))
-            }
         }
     }
 
@@ -241,7 +202,7 @@ impl Known {
     ) -> Result<Begun, AllocError>
         requires { spec.Sees catalogue.now self.old }
         ensures begun { IfOk result (λ begun.
-            (begun, self.new) ≡ spec.begun catalogue.now self.old (Assign name.now value)) }
+            (begun, self.new) ≡ spec.begun catalogue.now self.old (Command.Assign name.now value)) }
         ensures err { OnErr result (self.new ≡ self.old) }
     {
         match self.located_cell(catalogue, name) {
@@ -251,36 +212,6 @@ impl Known {
                 Ok(Begun::Said(Answer::Done))
             }
         }
-    }
-
-    fn update(&mut self, alloc: Global) -> Result<Begun, AllocError>
-        ensures begun { IfOk result (λ begun. (begun, self.new) ≡ spec.begun [] self.old Update) }
-        ensures err { OnErr result (self.new ≡ self.old) }
-    {
-        match &mut self.view {
-            None => Ok(refused(Refusal::not_attached())),
-            Some(view) => {
-                update_owned(alloc, view)?;
-                Ok(Begun::Said(Answer::Done))
-            }
-        }
-    }
-
-    fn commit(&self, alloc: Global) -> Result<Begun, AllocError>
-        ensures { IfOk result (λ begun. (begun, self.now) ≡ spec.begun [] self.now Commit) }
-    {
-        let Some(view) = &self.view else {
-            return Ok(refused(Refusal::not_attached()));
-        };
-        let changes = view.changes()?;
-        if changes.is_empty() {
-            return Ok(Begun::Said(Answer::Done));
-        }
-        Ok(Begun::Ask(Entry::Commit {
-            who: self.who,
-            changes,
-            leave: List::new(alloc),
-        }))
     }
 
     /// Reads the one cell of an INTEGER variable without dimensions.
@@ -296,7 +227,7 @@ impl Known {
 
     fn show(&self, catalogue: &Catalogue, name: &Text) -> Begun
         requires { spec.Sees catalogue.now self.now }
-        ensures { (result, self.now) ≡ spec.begun catalogue.now self.now (Show name.now) }
+        ensures { (result, self.now) ≡ spec.begun catalogue.now self.now (Command.Show name.now) }
     {
         match self.located_cell(catalogue, name) {
             Err(refusal) => refused(refusal),
@@ -308,37 +239,28 @@ impl Known {
         &mut self,
         alloc: Global,
         catalogue: &Catalogue,
-        command: &Command,
+        own: &Command,
     ) -> Result<Begun, AllocError>
-        requires { spec.Sees catalogue.now self.old }
+        requires sees { spec.Sees catalogue.now self.old }
+        requires ready { spec.IsReady self.old own.now }
         ensures begun { IfOk result (λ begun.
-            (begun, self.new) ≡ spec.begun catalogue.now self.old command.now) }
+            (begun, self.new) ≡ spec.begun catalogue.now self.old own.now) }
         ensures err { OnErr result (self.new ≡ self.old) }
-        ensures memory { OnErr result (spec.TakesMemory command.now) }
+        ensures memory { OnErr result (spec.TakesMemory own.now) }
     {
-        match command {
-            Command::Attach => Ok(self.attach()),
-            Command::Acquire(name) => self.acquire(alloc, catalogue, name),
+        match own {
+            Command::Attach(mode) => Ok(self.attach(*mode)),
             Command::Assign { name, value } => self.assign(alloc, catalogue, name, *value),
-            Command::Update => self.update(alloc),
-            Command::Commit => self.commit(alloc),
             Command::Show(name) => Ok(self.show(catalogue, name)),
-        }
-    }
-
-    /// The command that a statement is, or why it is refused.
-    fn asked_by(
-        &self,
-        alloc: Global,
-        catalogue: &Catalogue,
-        statement: &Statement,
-    ) -> Result<Asked, AllocError>
-        requires { spec.Sees catalogue.now self.now }
-        ensures { IfOk result (λ asked. asked ≡ line_spec.asked_by catalogue.now self.now (Ok statement.now)) }
-    {
-        match self.refusal(alloc, catalogue, statement)? {
-            Some(refusal) => Ok(Asked::Refused(refusal)),
-            None => Ok(runs(command_of(statement))),
+            Command::Detach => Ok(self.detach()),
+            Command::Acquire { keep, fresh, same } => {
+                self.acquire(alloc, catalogue, keep, fresh, same)
+            }
+            Command::Resync(objects) => self.resync(alloc, objects),
+            Command::Release(objects) => self.release(alloc, catalogue, objects),
+            Command::Revert(objects) => self.revert(alloc, catalogue, objects),
+            Command::Update(objects) => self.update(alloc, objects),
+            Command::Commit => self.commit(alloc, catalogue),
         }
     }
 
@@ -353,7 +275,8 @@ impl Known {
         requires sees { spec.Sees catalogue.now self.now }
         requires short { length line.now ≤ 4096 }
         requires within { from ≤ length line.now }
-        ensures { IfOk result (λ asked. asked ≡ line_spec.asked catalogue.now self.now line.now from) }
+        ensures asked { IfOk result (λ asked. asked ≡ line_spec.asked catalogue.now self.now line.now from) }
+        ensures ready { IfOk result (λ asked. line_spec.IsReadyFor self.now asked) }
     {
         match statement_in(alloc, line, from) {
             Ok(statement) => self.asked_by(alloc, catalogue, &statement),
@@ -361,54 +284,38 @@ impl Known {
         }
     }
 
-    fn begin_line(
-        &mut self,
-        alloc: Global,
-        catalogue: &Catalogue,
-        line: &[u8],
-        from: u32,
-    ) -> Result<Begun, AllocError>
-        requires sees { spec.Sees catalogue.now self.old }
-        requires short { length line.now ≤ 4096 }
-        requires within { from ≤ length line.now }
-        ensures begun { IfOk result (λ begun.
-            (begun, self.new) ≡ line_spec.line_begun catalogue.now self.old line.now from) }
-        ensures err { OnErr result (self.new ≡ self.old) }
-    {
-        match self.asked(alloc, catalogue, line, from)? {
-            Asked::Refused(refusal) => Ok(refused(refusal)),
-            Asked::Runs(command) => self.begin(alloc, catalogue, &command),
-        }
-    }
-
     fn attached(
         &mut self,
         alloc: Global,
         catalogue: &Catalogue,
+        asked: &Option<Command>,
         fresh: List<Fresh>,
     ) -> Result<Answer, AllocError>
-        requires { spec.Allows catalogue.now self.old (Attached fresh) }
+        requires { spec.Allows catalogue.now (spec.holding self.old asked.now) (Attached fresh) }
         ensures finished { IfOk result (λ answer.
-            (answer, self.new) ≡ spec.finished_by catalogue.now [] self.old [] (Attached fresh)) }
+            (answer, self.new) ≡ spec.finished_by catalogue.now [] self.old asked.now (Attached fresh)) }
         ensures err { OnErr result (self.new ≡ self.old) }
     {
-        self.view = Some(View::attach(alloc, self.who, catalogue, fresh)?);
+        let view = View::attach(alloc, self.who, catalogue, fresh)?;
+        self.mode = mode_asked(asked);
+        self.view = Some(view);
         Ok(Answer::Done)
     }
 
-    fn acquired(&mut self, asked: &List<u16>, fresh: List<Fresh>) -> Answer
-        requires { spec.Allows [] self.old (Acquired fresh) }
+    fn acquired(&mut self, alloc: Global, asked: &Option<Command>, fresh: List<Fresh>) -> Answer
+        requires { spec.Allows [] (spec.holding self.old asked.now) (Acquired fresh) }
         ensures { (result, self.new) ≡ spec.finished_by [] [] self.old asked.now (Acquired fresh) }
     {
+        let none = List::new(alloc);
         if let Some(view) = &mut self.view {
-            view.own(asked, fresh);
+            view.own(kept_asked(asked, &none), fresh);
         }
         Answer::Done
     }
 
     fn resynced(&mut self, fresh: List<Fresh>) -> Answer
-        requires { spec.Allows [] self.old (Resynced fresh) }
-        ensures { (result, self.new) ≡ spec.finished_by [] [] self.old [] (Resynced fresh) }
+        requires { spec.Allows [] (spec.resting self.old) (Resynced fresh) }
+        ensures { (result, self.new) ≡ spec.finished_by [] [] self.old None (Resynced fresh) }
     {
         if let Some(view) = &mut self.view {
             view.take(fresh);
@@ -417,11 +324,29 @@ impl Known {
     }
 
     fn committed(&mut self) -> Answer
-        ensures { (result, self.new) ≡ spec.finished_by [] [] self.old [] Committed }
+        ensures { (result, self.new) ≡ spec.finished_by [] [] self.old None Committed }
     {
         if let Some(view) = &mut self.view {
             view.committed();
         }
+        Answer::Done
+    }
+
+    fn released(&mut self, alloc: Global, asked: &Option<Command>) -> Answer
+        requires { spec.Allows [] (spec.holding self.old asked.now) Released }
+        ensures { (result, self.new) ≡ spec.finished_by [] [] self.old asked.now Released }
+    {
+        let none = List::new(alloc);
+        if let Some(view) = &mut self.view {
+            view.release(given_asked(asked, &none));
+        }
+        Answer::Done
+    }
+
+    fn detached(&mut self) -> Answer
+        ensures { (result, self.new) ≡ spec.finished_by [] [] self.old None Detached }
+    {
+        self.view = None;
         Answer::Done
     }
 
@@ -430,10 +355,10 @@ impl Known {
         alloc: Global,
         catalogue: &Catalogue,
         names: &[Text],
-        asked: &List<u16>,
+        asked: &Option<Command>,
         reply: Reply,
     ) -> Result<Answer, AllocError>
-        requires { spec.Allows catalogue.now self.old reply }
+        requires { spec.Allows catalogue.now (spec.holding self.old asked.now) reply }
         ensures finished { IfOk result (λ answer.
             (answer, self.new) ≡ spec.finished_by catalogue.now names.now self.old asked.now reply) }
         ensures memory { reply ≡ NoMemory → IsErr result }
@@ -441,11 +366,12 @@ impl Known {
         ensures needs { OnErr result (spec.MayWantMemory reply) }
     {
         match reply {
-            Reply::Attached(fresh) => self.attached(alloc, catalogue, fresh),
-            Reply::Acquired(fresh) => Ok(self.acquired(asked, fresh)),
+            Reply::Attached(fresh) => self.attached(alloc, catalogue, asked, fresh),
+            Reply::Acquired(fresh) => Ok(self.acquired(alloc, asked, fresh)),
             Reply::Resynced(fresh) => Ok(self.resynced(fresh)),
             Reply::Committed => Ok(self.committed()),
-            Reply::Released | Reply::Detached => Ok(Answer::Done),
+            Reply::Released => Ok(self.released(alloc, asked)),
+            Reply::Detached => Ok(self.detached()),
             Reply::Owned { object, by } => Ok(Answer::Refused(Refusal::owned_by(
                 name_of(catalogue, object),
                 name_at(names, by as usize),
@@ -469,13 +395,42 @@ impl Known {
 
 impl Session {
     /// A session of this number. It isn't attached yet.
-    pub fn new(alloc: Global, who: u32) -> Session
+    pub fn new(who: u32) -> Session
         ensures { result ≡ spec.resting (spec.new_session who) }
     {
         Session {
             known: Known::new(who),
-            asked: List::new(alloc),
+            asked: None,
         }
+    }
+
+    /// Answers a line that is refused.
+    fn refused(&mut self, refusal: Refusal) -> Begun
+        ensures { (result, self.new) ≡ line_spec.begun_as [] self.old.known (Asked.Refused refusal) }
+    {
+        self.asked = None;
+        refused(refusal)
+    }
+
+    /// Begins a command, and keeps it where it asks for something.
+    fn run(
+        &mut self,
+        alloc: Global,
+        catalogue: &Catalogue,
+        own: Command,
+    ) -> Result<Begun, AllocError>
+        requires sees { spec.Sees catalogue.now self.old.known }
+        requires ready { spec.IsReady self.old.known own }
+        ensures begun { IfOk result (λ begun.
+            (begun, self.new) ≡ spec.kept_waiting own (spec.begun catalogue.now self.old.known own)) }
+        ensures err { OnErr result (self.new ≡ self.old) }
+    {
+        let begun = self.known.begin(alloc, catalogue, &own)?;
+        self.asked = match &begun {
+            Begun::Ask(_) => Some(own),
+            Begun::Said(_) => None,
+        };
+        Ok(begun)
     }
 
     /// Begins a line, whose statement stands from this place on: the session answers it, or asks the
@@ -500,13 +455,14 @@ impl Session {
         requires short { length line.now ≤ 4096 }
         requires within { from ≤ length line.now }
         ensures begun { IfOk result (λ begun.
-            (begun, self.new.known) ≡ line_spec.line_begun catalogue.now self.old.known line.now from) }
-        ensures keeps { IfOk result (λ begun. self.new.asked ≡ spec.asked_by begun) }
+            (begun, self.new) ≡ line_spec.line_begun catalogue.now self.old.known line.now from) }
+        ensures ready { IfOk result (λ begun. IfSome self.new.asked (spec.IsReady self.new.known)) }
         ensures err { OnErr result (self.new ≡ self.old) }
     {
-        let begun = self.known.begin_line(alloc, catalogue, line, from)?;
-        self.asked = begun.asked(alloc)?;
-        Ok(begun)
+        match self.known.asked(alloc, catalogue, line, from)? {
+            Asked::Refused(refusal) => Ok(self.refused(refusal)),
+            Asked::Runs(own) => self.run(alloc, catalogue, own),
+        }
     }
 
     /// Takes the reply to the entry that the session asked for, and answers the command
@@ -527,15 +483,15 @@ impl Session {
         names: &[Text],
         reply: Reply,
     ) -> Result<Answer, AllocError>
-        requires allowed { spec.Allows catalogue.now self.old.known reply }
+        requires allowed { spec.Allows catalogue.now self.old reply }
         ensures finished { IfOk result (λ answer.
-            (answer, self.new.known) ≡ spec.finished_by catalogue.now names.now self.old.known self.old.asked reply) }
-        ensures rests { self.new.asked ≡ [] }
+            (answer, self.new.known) ≡ spec.finished catalogue.now names.now self.old reply) }
+        ensures rests { self.new.asked ≡ None }
         ensures memory { reply ≡ NoMemory → IsErr result }
         ensures err { OnErr result (self.new.known ≡ self.old.known) }
         ensures needs { OnErr result (spec.MayWantMemory reply) }
     {
-        let asked = mem::replace(&mut self.asked, List::new(alloc));
+        let asked = self.asked.take();
         self.known.finish(alloc, catalogue, names, &asked, reply)
     }
 }

@@ -1,3 +1,4 @@
+ghost use Rattle.std.specs.Prelude.{◌≤◌, length};
 ghost use Rattle.ses_step.specs.Sessions as spec;
 
 use aw_cell::{Kind, Text, is_name};
@@ -5,7 +6,7 @@ use aw_lists::Coord;
 use aw_schema::{Catalogue, Def, DefKind};
 use mv_core::Reply;
 use ses_report::{Detail, Refusal};
-use ses_step::{Answer, Session};
+use ses_step::{Answer, Begun, Session};
 use std::alloc::Global;
 use std::test::Fail;
 
@@ -38,17 +39,42 @@ fn is_refused(
     number: u8,
     detail: Detail,
 ) -> bool
-    requires { spec.Allows catalogue.now (spec.new_session 0) reply }
+    requires { spec.Allows catalogue.now (spec.resting (spec.new_session 0)) reply }
 {
     let refusal = Refusal {
         number,
         line: 0,
         detail,
     };
-    match Session::new(alloc, 0).finish(alloc, catalogue, names, reply) {
+    match Session::new(0).finish(alloc, catalogue, names, reply) {
         Ok(answer) => answer == Answer::Refused(refusal),
         Err(_) => false,
     }
+}
+
+// Whether a session's first line asks for something, or is refused since it isn't attached.
+fn asks(alloc: Global, catalogue: &Catalogue, line: &[u8]) -> Option<bool>
+    requires { length line.now ≤ 4096 }
+{
+    let mut session = Session::new(0);
+    let begun = session.begin(alloc, catalogue, line, 0);
+    match &begun {
+        Ok(Begun::Ask(_)) => Some(true),
+        Ok(Begun::Said(Answer::Refused(refusal))) => Some(refusal.number != 15),
+        _ => None,
+    }
+}
+
+#[test]
+fn begins_with_attaching(rt: HostRuntime) -> Result<(), Fail> {
+    let (alloc, v, w) = (rt.alloc(), text(b"v")?, text(b"w")?);
+    let all = two(alloc, v, w).ok_or("two variables")?;
+    let mut begun = asks(alloc, &all, b"AW ATTACH RO") == Some(true);
+    begun &= asks(alloc, &all, b"AW DETACH") == Some(false);
+    begun &= asks(alloc, &all, b"ACQUIRE v RESYNC w") == Some(false);
+    begun &= asks(alloc, &all, b"RELEASE v, w") == Some(false);
+    assert!(rt; begun);
+    Ok(())
 }
 
 #[test]

@@ -8,10 +8,10 @@ use Rattle.ses_step.specs.declared.command.Command.{Command}
 use Rattle.ses_step.specs.declared.line.LineForm.{LineForm}
 use Rattle.ses_step.specs.declared.session.Begun.{Begun}
 use Rattle.ses_step.specs.declared.session.Begun.TheVariants.{Said, Ask}
-use Rattle.ses_step.specs.declared.session.Known.{Known as Session}
+use Rattle.ses_step.specs.declared.session.Session.{Session as Waiting}
 use Rattle.ses_step.specs.Answers.{answer_of}
 use Rattle.ses_step.specs.SessionLines.{asked, line_begun}
-use Rattle.ses_step.specs.Sessions.{begun}
+use Rattle.ses_step.specs.Sessions.{begun, kept_waiting}
 use Rattle.script_world.specs.Worlds.{World, Machine, line, answers, answered, name_at, answered_so, session_place, with_name, with_session, own_session, begun_so, commanded, crowded_out, shared_of, closed, form_planned, settled}
 use Rattle.script_world.specs.Outcomes.{Outcome}
 use Rattle.script_world.proofs.callers.Moves.{if-holds}
@@ -20,16 +20,16 @@ use Rattle.script_meaning.specs.Turns.{with_turn, LinesTakeTurns, turn_from, tur
 
 module _ {S : Type 0} (machine : Machine language S) (w : World language S) (who : ℕ) (shared : S) (is_open : w.shared ≡ Some shared) where
   -- whatever a session begins
-  begun-turn : (b : Begun × Session) → settled machine (begun_so w shared who (begun_of b)) ≡ with_turn w who (turn_from machine w.definitions w.names shared b)
+  begun-turn : (b : Begun × Waiting) → settled machine (begun_so w shared who (begun_of b)) ≡ with_turn w who (turn_from machine w.definitions w.names shared b)
   begun-turn b = by_begun b.0 b.1
     where
-      by_begun : (first : Begun) (session : Session) → settled machine (begun_so w shared who (begun_of (first, session))) ≡ with_turn w who (turn_from machine w.definitions w.names shared (first, session))
+      by_begun : (first : Begun) (session : Waiting) → settled machine (begun_so w shared who (begun_of (first, session))) ≡ with_turn w who (turn_from machine w.definitions w.names shared (first, session))
       by_begun (Said answer) session =
-          ap (λ those. let it : World language S = record w { shared = those; sessions = slice_set w.sessions who session } in answered_so (name_at w.names who) (answer_of answer) it) is_open
+          ap (λ those. let it : World language S = record w { shared = those; sessions = slice_set w.sessions who session.known } in answered_so (name_at w.names who) (answer_of answer) it) is_open
       by_begun (Ask entry) session = refl
 
-  pub commanded-turn : (own : Command) → settled machine (begun_so w shared who (begun_of (begun w.definitions (own_session w who) own))) ≡ with_turn w who (turn machine w.definitions w.names shared (own_session w who) own)
-  commanded-turn own = begun-turn (begun w.definitions (own_session w who) own)
+  pub commanded-turn : (own : Command) → settled machine (begun_so w shared who (begun_of (kept_waiting own (begun w.definitions (own_session w who) own)))) ≡ with_turn w who (turn machine w.definitions w.names shared (own_session w who) own)
+  commanded-turn own = begun-turn (kept_waiting own (begun w.definitions (own_session w who) own))
 
   pub line-turn : (written : Written) → settled machine (commanded w shared who written) ≡ with_turn w who (line_turn machine w.definitions w.names shared (own_session w who) written)
   line-turn written = begun-turn (line_begun w.definitions (own_session w who) written.line written.from)

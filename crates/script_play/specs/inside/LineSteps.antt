@@ -108,12 +108,12 @@ module _ {D : Type 0} (faults clock : D → ℕ) (crash : D → ℕ → List ℕ
     pub moves : Moves told more old new
     pub step : (next : ℕ → Outcome) (opened : Option Decoded) (tried : List (Attempt Decoded)) → Tells next (length tried) told → (machine next).step (store_disk opened tried old) asked ≡ (reply, store_disk opened (tried ++ more) new)
 
-  -- an entry and the answer by its reply
-  pub record Replied (definitions : List Def) (names : List (List ℕ)) (asked : Entry) (answer : Answer) (before after : Known) (old new : StoreState D) : Type 0 where
+  -- an entry and the answer by its reply, of a session that waits for it
+  pub record Replied (definitions : List Def) (names : List (List ℕ)) (asked : Entry) (answer : Answer) (waiting : Session) (after : Known) (old new : StoreState D) : Type 0 where
     pub reply : Reply
     pub asks : Asked asked reply old new
-    pub finishes : (answer, after) ≡ finished definitions names before asked reply
-    pub keeps_seen : Sees definitions before → Sees definitions after
+    pub finishes : (answer, after) ≡ finished definitions names waiting reply
+    pub keeps_seen : Sees definitions waiting.known → Sees definitions after
 
   -- for want of memory an entry has no answer: it did nothing, or was replied to
   abbrev pub ReplyWants : Entry → StoreState D → StoreState D → Type 0

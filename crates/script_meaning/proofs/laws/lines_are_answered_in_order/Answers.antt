@@ -1,4 +1,5 @@
-use Rattle.script_meaning.proofs.LineAnswers.{lines_answered, others_refused, assignments_done, updates_done}
+use Rattle.script_meaning.proofs.LineOrder.{lines_answered, others_refused}
+use Rattle.script_meaning.proofs.LineAnswers.{assignments_done, sharing_goes_ahead}
 use Rattle.script_meaning.proofs.laws.lines_are_answered_in_order.Goals as goal
 
 pub returns-clause-in_order : goal.returns-clause-in_order
@@ -10,5 +11,5 @@ returns-clause-others c = others_refused
 pub returns-clause-assigned : goal.returns-clause-assigned
 returns-clause-assigned c = assignments_done
 
-pub returns-clause-updated : goal.returns-clause-updated
-returns-clause-updated c = updates_done
+pub returns-clause-shared : goal.returns-clause-shared
+returns-clause-shared c = sharing_goes_ahead

@@ -1,5 +1,5 @@
 use Rattle.script_meaning.proofs.SnapshotReads.{attach_gives_latest, own_commands_move, shows_what_is_read}
-use Rattle.script_meaning.proofs.SnapshotReadsOfRuns.{read_its_own}
+use Rattle.script_meaning.proofs.SnapshotReadsOfRuns.{sees_its_own, keeps_owned}
 use Rattle.script_meaning.proofs.laws.sessions_read_their_own.Goals as goal
 
 pub returns-clause-attached : goal.returns-clause-attached
@@ -12,4 +12,7 @@ pub returns-clause-shown : goal.returns-clause-shown
 returns-clause-shown c = shows_what_is_read
 
 pub returns-clause-since : goal.returns-clause-since
-returns-clause-since c names records coming events can = read_its_own names records coming can events
+returns-clause-since c names records coming events can = sees_its_own names records coming can events
+
+pub returns-clause-owned : goal.returns-clause-owned
+returns-clause-owned c names records coming events event can = keeps_owned names records coming events can event

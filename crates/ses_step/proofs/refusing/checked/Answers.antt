@@ -1,4 +1,4 @@
-use Rattle.ses_step.proofs.FaultsTold.{checked_of}
+use Rattle.ses_step.proofs.SessionChecks.{checked_of}
 use Rattle.ses_step.proofs.refusing.checked.Goals as goal
 
 pub returns : goal.returns
