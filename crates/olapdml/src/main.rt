@@ -39,21 +39,23 @@ A refused line is answered by ERROR, a number and its detail:
   14  more than 4,096 objects, 6 dimensions or 67,108,864 bytes of a commit's record; too long a formula
       define fewer, or update and commit fewer objects at once
   15  the session isn't attached
-      begin with AW ATTACH MULTI
+      begin with AW ATTACH
   16  the session is attached already
-      leave the second AW ATTACH MULTI out
-  17  another session owns the variable
-      wait for its commit, or ask its owner, who is named
-  18  the variable has a generation that is newer than the session's
-      attach in a later run, and change the newer value
+      leave the second AW ATTACH out, or AW DETACH first
+  17  another session owns the object
+      wait until its owner, who is named, releases it
+  18  the object has a generation that is newer than the session's
+      RESYNC it, and change the newer value
   19  the session doesn't own the object
       ACQUIRE it first
   20  the session owns the object
-      RELEASE it first
+      commit and RELEASE it first
   21  the definitions are written, and stay as they are
       define all objects before the first session line, on a new workspace
-  22  the variable has the last generation number that there is
-      define another variable on a new workspace
+  22  the object has the last generation number that there is
+      define another object on a new workspace
+  23  the session attached with RO, to read alone
+      AW DETACH, and AW ATTACH MULTI
   24  a line of a program begins with a word of session lines
       leave the line out of the program
   27  the line has more than 4,096 bytes, or a byte that no line has
