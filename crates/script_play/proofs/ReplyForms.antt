@@ -188,6 +188,6 @@ module _ {D : Type 0} (old new : StoreState D) (table : IsTable old.table.defini
   act-allowed asked NoMemory acts = tt
 
 -- a session that sees the store's definitions may take what an act replies
-pub allowed_so : {D : Type 0} (asked : Entry) (reply : Reply) (old new : StoreState D) → old.table.definitions ≡ definitions_in old → IsTable old.table.definitions old.table.objects → Acts asked reply old new → (known : Known) → Sees (definitions_in old) known → Allows (definitions_in old) known reply
-allowed_so asked reply old new same table acts known sees =
-    subst (λ (definitions : List Def). Allows definitions s reply) same (act-allowed old new table known (subst (λ (definitions : List Def). Sees definitions known) (sym same) sees) asked reply acts)
+pub allowed_so : {D : Type 0} (asked : Entry) (reply : Reply) (old new : StoreState D) → old.table.definitions ≡ definitions_in old → IsTable old.table.definitions old.table.objects → Acts asked reply old new → (s : Session) → Sees (definitions_in old) s.known → IfSome s.asked (IsReady s.known) → Allows (definitions_in old) s reply
+allowed_so asked reply old new same table acts s sees ready =
+    subst (λ (definitions : List Def). Allows definitions s reply) same (act-allowed old new table s (subst (λ (definitions : List Def). Sees definitions s.known) (sym same) sees) ready asked reply acts)
