@@ -19,7 +19,7 @@ use Rattle.ses_step.specs.Answers.{answer_of}
 use Rattle.ses_step.specs.declared.command.Command.{Command}
 use Rattle.ses_step.specs.declared.command.Command.TheVariants as command
 use Rattle.ses_step.specs.declared.session.Begun.{Begun}
-use Rattle.ses_step.specs.declared.session.Begun.TheVariants.{Said, Ask}
+use Rattle.ses_step.specs.declared.session.Begun.TheVariants.{Said}
 use Rattle.ses_step.specs.declared.answer.Answer.TheVariants.{Done, Shown, Refused}
 use Rattle.aw_cell.specs.declared.cell.Cell.TheVariants.{Int}
 use Rattle.ses_step.specs.declared.command.Asked.{Asked}
