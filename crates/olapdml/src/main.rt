@@ -49,12 +49,12 @@ A refused line is answered by ERROR, a number and its detail:
   19  the session doesn't own the object
       ACQUIRE it first
   20  the session owns the object
-      commit and RELEASE it first
+      COMMIT and RELEASE it first
   21  the definitions are written, and stay as they are
       define all objects before the first session line, on a new workspace
   22  the object has the last generation number that there is
       define another object on a new workspace
-  23  the session attached with RO, to read alone
+  23  the session attached with RO, and only reads
       AW DETACH, and AW ATTACH MULTI
   24  a line of a program begins with a word of session lines
       leave the line out of the program
