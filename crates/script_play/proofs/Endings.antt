@@ -11,6 +11,7 @@ use Rattle.aw_codec.specs.declared.record.Decoded.{Decoded}
 use Rattle.aw_journal.specs.Passed.{Passed}
 use Rattle.aw_store.specs.StoredRecords.{HoldsRecords, LeftRecords, definitions_of, stood_by, CanBeOpened}
 use Rattle.aw_store.specs.Stores.{StoreState}
+use Rattle.aw_feed.specs.Feed.{Listening}
 use Rattle.script_world.specs.Outcomes.{Outcome, faulted, Attempt, all_attempts}
 use Rattle.script_world.specs.Worlds.{Closes, Event, line, block_ends, script_ends, with_shared, session_in, text_of, ended_events, script_events}
 use Rattle.script_meaning.specs.ObjectsSimulation.{standing_disk, objects_at}
@@ -29,7 +30,9 @@ use Rattle.script_play.specs.inside.StoreWorlds.{world_of, IsSound}
 use Rattle.script_play.specs.inside.Playing.{Play, Stands, HasDone, ClosesWith, WasCut, HasFailed, HasPlayed, HasFinished, opened_world, opened_play}
 use Rattle.script_play.specs.inside.ScriptReading.{BrokeOff, RanOver, EndedWhole, EndsRun, EndsFrom}
 use Rattle.script_meaning.proofs.callers.Defining.{definable-none}
+use Rattle.script_play.specs.inside.Telling.{HasTold}
 use Rattle.script_play.proofs.LineSteps.{later-same}
+use Rattle.script_play.proofs.Told.{told_as, told_done}
 use Rattle.script_play.proofs.AnsweredEvents.{cut_before, rose-earlier}
 use Rattle.ses_step.specs.declared.session.Session.{Session}
 use Rattle.aw_lists.specs.Faults.{Rose}
@@ -253,9 +256,9 @@ module _ {D : Type 0} (faults clock : D → ℕ) (crash : D → ℕ → List ℕ
 
   -- ---- the whole run
 
-  pub was_opened : (content : D → Option (List ℕ)) (disk : D) (ending : Ending) (s : Streams) (f : StreamFaults) (first last : StoreState D) → ((bytes : List ℕ) → content last.disk ≡ Some bytes → crash last.disk (clock last.disk) bytes) → CanBeOpened first.records → IfSome (content disk) (λ image. HoldsRecords image first.records) → Passed (clock disk) (clock first.disk) (crash disk) (crash first.disk) (crash disk (clock disk)) → faults disk ≤ faults first.disk → EndedAs faults clock crash first.records first.disk ending s last →
-      WasOpened (run_on content faults clock crash s f disk last.disk) (status_of ending)
-  was_opened content disk ending s f first last is_image opens holds passed later it = record {
+  pub was_opened : (content : D → Option (List ℕ)) (disk : D) (ending : Ending) (s : Streams) (f : StreamFaults) (first last : StoreState D) → ((bytes : List ℕ) → content last.disk ≡ Some bytes → crash last.disk (clock last.disk) bytes) → CanBeOpened first.records → IfSome (content disk) (λ image. HoldsRecords image first.records) → Passed (clock disk) (clock first.disk) (crash disk) (crash first.disk) (crash disk (clock disk)) → faults disk ≤ faults first.disk → (it : EndedAs faults clock crash first.records first.disk ending s last) → (heard heard_now : List Listening) → HasTold heard heard_now first last →
+      WasOpened (run_on content faults clock crash s f disk last.disk heard heard_now) (status_of ending)
+  was_opened content disk ending s f first last is_image opens holds passed later it heard heard_now told = record {
     records = first.records;
     can_be_opened = opens;
     holds = holds;
@@ -280,6 +283,7 @@ module _ {D : Type 0} (faults clock : D → ℕ) (crash : D → ℕ → List ℕ
     crash = it.stands.fares.each;
     leaves = if-some (content last.disk) (λ image. HoldsLeft SameRecords first.records it.made (length it.made) image) (λ image told.
         fares_final first.records it.made it.stands.ends (clock first.disk) (clock last.disk) (crash last.disk) last.records last.doubt it.stands.fares image (is_image image told));
+    told = told_done heard heard_now first last it.made it.stands.fares.are_settled told;
   }
 
   pub disk_rose : (records : List Decoded) (at : D) (s : Streams) (store : StoreState D) → EndsRun faults clock crash records at DiskFault s store → Rose (faults at) (faults store.disk)
@@ -297,16 +301,19 @@ module _ {D : Type 0} (faults clock : D → ℕ) (crash : D → ℕ → List ℕ
   ends_as_opened play store last other ending s is same it =
       subst (λ start. EndsFrom faults clock crash start ending s other) is (subst (EndsFrom faults clock crash play ending s) (sym same) it)
 
+  pub told_opened : {before now : List Listening} (play : Play D) (store last other : StoreState D) → play ≡ opened_play store → other ≡ last → HasTold before now play.world.store last → HasTold before now store other
+  told_opened play store last other is same told = told_as play.world.store store last other (ap (λ (play : Play D). play.world.store) is) same told
+
   -- a run over a store that was just loaded
   module _ (content : D → Option (List ℕ)) (disk : D) (ending : Ending) (s : Streams) (f : StreamFaults) (first last : StoreState D) (certain : first.doubt ≡ None) (table : first.table ≡ stood_by first.records []) (images : (image : List ℕ) → crash first.disk (clock first.disk) image → LeftRecords first.records first.doubt image)
       (passed : Passed (clock disk) (clock first.disk) (crash disk) (crash first.disk) (crash disk (clock disk))) (later : faults disk ≤ faults first.disk) (ends : EndsFrom faults clock crash (opened_play first) ending s last) where
     ended : EndedAs faults clock crash first.records first.disk ending s last
     ended = ended_as faults clock crash first.records first.disk ending s last (ends.ends first.records first.disk (begins first s.written_before certain table images))
 
-    pub opened_ends : (after : D) → after ≡ last.disk → ((bytes : List ℕ) → content last.disk ≡ Some bytes → crash last.disk (clock last.disk) bytes) → CanBeOpened first.records → IfSome (content disk) (λ image. HoldsRecords image first.records) → (status : ℕ) → status ≡ status_of ending → Ends (run_on content faults clock crash s f disk after) status
-    opened_ends after same is_image opens holds status is =
-        let P : D → ℕ → Type 0 = λ after status. WasOpened (run_on content faults clock crash s f disk after) status in
-        inr (subst (λ after. P after status) (sym same) (subst (P last.disk) (sym is) (was_opened content disk ending s f first last is_image opens holds passed later ended)))
+    pub opened_ends : (after : D) → after ≡ last.disk → ((bytes : List ℕ) → content last.disk ≡ Some bytes → crash last.disk (clock last.disk) bytes) → CanBeOpened first.records → IfSome (content disk) (λ image. HoldsRecords image first.records) → (status : ℕ) → status ≡ status_of ending → (heard heard_now : List Listening) → HasTold heard heard_now first last → Ends (run_on content faults clock crash s f disk after heard heard_now) status
+    opened_ends after same is_image opens holds status is heard heard_now told =
+        let P : D → ℕ → Type 0 = λ after status. WasOpened (run_on content faults clock crash s f disk after heard heard_now) status in
+        inr (subst (λ after. P after status) (sym same) (subst (P last.disk) (sym is) (was_opened content disk ending s f first last is_image opens holds passed later ended heard heard_now told)))
 
     pub opened_later : (after : D) → after ≡ last.disk → faults disk ≤ faults after
     opened_later after same = let more = ended.stands.later.faults_later in subst (λ after. faults disk ≤ faults after) (sym same) (omega (arith, later, more))
@@ -318,5 +325,5 @@ module _ {D : Type 0} (faults clock : D → ℕ) (crash : D → ℕ → List ℕ
 
   -- ---- a disk that isn't opened
 
-  pub not_opened : (content : D → Option (List ℕ)) (disk after : D) (why : Unopened) (s : Streams) (f : StreamFaults) (status : ℕ) → status ≡ unopened_status why → IsUnopened why (content disk) s.written_before s.written_now → s.left_now ≡ s.left_before → content after ≡ content disk → Passed (clock disk) (clock after) (crash disk) (crash after) (crash disk (clock disk)) → Ends (run_on content faults clock crash s f disk after) status
-  not_opened content disk after why s f status is tells left same passed = inl (record { why = why; is = is; tells = tells; left = left; content = same; kept = passed.kept; undisturbed = passed.only })
+  pub not_opened : (content : D → Option (List ℕ)) (disk after : D) (why : Unopened) (s : Streams) (f : StreamFaults) (status : ℕ) (heard : List Listening) → status ≡ unopened_status why → IsUnopened why (content disk) s.written_before s.written_now → s.left_now ≡ s.left_before → content after ≡ content disk → Passed (clock disk) (clock after) (crash disk) (crash after) (crash disk (clock disk)) → Ends (run_on content faults clock crash s f disk after heard heard) status
+  not_opened content disk after why s f status heard is tells left same passed = inl (record { why = why; is = is; tells = tells; left = left; content = same; kept = passed.kept; undisturbed = passed.only; untold = refl })

@@ -1,6 +1,7 @@
 -- What the status of a run says of the disk and of the answers.
 use Rattle.std.specs.Prelude.{◌≡◌, ◌≤◌, ℕ, Bool, true, false, List, [], Option, None, Some, IfSome}
 use Rattle.std.proofs.Common.{◌∙◌, sym, subst, ⊎_elim, arith}
+use Rattle.aw_lists.specs.Faults.{Rose}
 use Rattle.aw_codec.specs.declared.record.Decoded.{Decoded}
 use Rattle.aw_store.specs.StoredRecords.{HoldsRecords}
 use Rattle.script_world.specs.Worlds.{answers_of, NoneRefused, SomeRefused, script_events}
@@ -13,9 +14,10 @@ use Rattle.script_disk.specs.declared.opening.Unopened.{Unopened}
 use Rattle.script_disk.specs.declared.opening.Unopened.TheVariants as unopened
 use Rattle.script_disk.specs.WhyUnopened.{ExplainsContent, status_of as unopened_status}
 use Rattle.script_disk.proofs.callers.Completing.{holds_explains, unopened_explains}
+use Rattle.script_play.proofs.Completing.{completes_so}
 use Rattle.script_play.specs.declared.ending.Ending.{Ending}
 use Rattle.script_play.specs.declared.ending.Ending.TheVariants.{Accepted, Refusing, SourceFault, SinkFault, DiskFault, NoMemory, TooLong}
-use Rattle.script_play.specs.Runs.{status_of, Streams, Run, IsWhole, EndsSo, Ends, WasOpened, AnswersAll}
+use Rattle.script_play.specs.Runs.{status_of, Streams, Run, IsWhole, EndsSo, Ends, WasOpened, AnswersAll, Plays}
 
 -- a run whose disk was opened ends with neither 7 nor 8
 ends-other : (ending : Ending) (other : ℕ) → 7 ≤ other → other ≤ 8 → status_of ending ≡ other → ⊥
@@ -87,3 +89,13 @@ module _ (r : Run) (status : ℕ) (ends : Ends r status) where
   ends_refusing one = ⊎_elim (λ not. absurd (unopened-other not.why (omega (arith, not.is, one)))) (λ was.
       let whole = whole-refusing r.streams was.records was.outcomes was.made was.taken was.ending (sym was.is ∙ one) was.ends_so in
       whole-answers true SomeRefused was whole (some_refused (by_history was.outcomes) (opening [] was.records) (script_events was.taken) whole.refuses)) ends
+
+  -- what a run does, with what each fault counts
+  pub plays_so : ((image : List ℕ) → r.content_before ≡ Some image → r.crash_before r.clock_before image) → (status ≡ 3 → Rose r.stream_faults.source_before r.stream_faults.source_now) → (status ≡ 4 → Rose r.stream_faults.sink_before r.stream_faults.sink_now) → (status ≡ 5 → Rose r.faults_before r.faults_now) → Plays r status
+  plays_so is_image source_cause sink_cause disk_cause = record {
+    ends = ends;
+    completes = λ formatted told source sink disk. completes_so r status ends formatted is_image told (λ three. source (source_cause three)) (λ four. sink (sink_cause four)) (λ five. disk (disk_cause five)) disk;
+    explains = ends_explains;
+    accepted = ends_accepted;
+    refused = ends_refusing;
+  }

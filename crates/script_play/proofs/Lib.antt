@@ -11,3 +11,4 @@ pub mod AnsweredEvents
 pub mod FedBytes
 pub mod ScriptEnd
 pub mod ReplyForms
+pub mod Told

@@ -1,17 +1,20 @@
 -- A run of the program: the words of the command line, the statuses, and how `play` ends: what it took of the script, what
 -- it wrote, and what it left on the disk.
-use Rattle.std.specs.Prelude.{◌≡◌, ◌≤◌, ◌<◌, ◌+◌, ◌++◌, ◌⊎◌, ◌↔◌, ◌∷◌, ℕ, Bool, true, false, List, [], length, take, Option, None, IfSome, IsSome, codes, if◌then◌else◌, Some}
+use Rattle.std.specs.Prelude.{◌≡◌, ◌≤◌, ◌<◌, ◌+◌, ◌++◌, ◌⊎◌, ◌↔◌, ◌∷◌, ℕ, suc, min, Bool, true, false, List, [], length, take, Option, None, IfSome, IsSome, codes, if◌then◌else◌, Some}
 use Rattle.std.specs.Io.KnownBytes.{IsAtEnd}
 use Rattle.std.specs.List.{count_by}
 use Rattle.std.specs.Str.{bytes_eq}
 use Rattle.aw_lists.specs.Faults.{Rose}
 use Rattle.aw_io.specs.Known.{Gives, Grows}
+use Rattle.aw_feed.specs.Listener.{Note}
+use Rattle.aw_feed.specs.Feed.{Listening, HaveHeard}
+use Rattle.aw_codec.specs.Records.{spelled}
 use Rattle.aw_codec.specs.declared.record.Decoded.{Decoded}
 use Rattle.aw_codec.specs.declared.record.Decoded.TheVariants.{Definitions}
 use Rattle.aw_store.specs.StoredRecords.{HoldsRecords, CanBeOpened}
 use Rattle.ses_report.specs.Reports.{Answer}
 use Rattle.script_world.specs.Worlds.{answers_of, NoneRefused, SomeRefused, Closes, World, Machine, Event, answered, text_of, ended_events, script_events}
-use Rattle.script_world.specs.Outcomes.{Outcome, faulted, Attempt, has_faulted, AreDone}
+use Rattle.script_world.specs.Outcomes.{Outcome, faulted, Attempt, done_records, has_faulted, AreDone}
 use Rattle.script_world.specs.Meaning.{Meaning}
 use Rattle.script_meaning.specs.Transcript.{HoldsLeft, Rise, ended_by, SameRecords, opening, world_at, attempts, transcript, has_refusal, ended_transcript}
 use Rattle.script_meaning.specs.Language.{by_history}
@@ -74,7 +77,7 @@ pub record StreamFaults : Type 0 where
   pub sink_now : ℕ
 
 -- A run by what was before it and is after it: the source and the sink; what the disk tells of its content, how often it had
--- failed, the moment, and what a crash leaves at each moment.
+-- failed, the moment, and what a crash leaves at each moment; and what each listener tells of itself.
 pub record Run : Type 1 where
   pub streams : Streams
   pub stream_faults : StreamFaults
@@ -86,11 +89,13 @@ pub record Run : Type 1 where
   pub clock_now : ℕ
   pub crash_before : ℕ → List ℕ → Type 0
   pub crash_now : ℕ → List ℕ → Type 0
+  pub heard_before : List Listening
+  pub heard_now : List Listening
 
--- the run on a disk that was so and is so
+-- the run on a disk that was so and is so, with these listeners
 module _ {D : Type 0} (content : D → Option (List ℕ)) (faults clock : D → ℕ) (crash : D → ℕ → List ℕ → Type 0) where
-  abbrev pub run_on : Streams → StreamFaults → D → D → Run
-  run_on streams stream_faults old new = record {
+  abbrev pub run_on : Streams → StreamFaults → D → D → List Listening → List Listening → Run
+  run_on streams stream_faults old new heard heard_now = record {
     streams = streams;
     stream_faults = stream_faults;
     content_before = content old;
@@ -101,17 +106,19 @@ module _ {D : Type 0} (content : D → Option (List ℕ)) (faults clock : D → 
     clock_now = clock new;
     crash_before = crash old;
     crash_now = crash new;
+    heard_before = heard;
+    heard_now = heard_now;
   }
 
--- the run of these devices
+-- the run of these devices, with these listeners
 module _ {S K D : Type 0} (left : S → Option (List ℕ)) (source_faults : S → ℕ) (written : K → Option (List ℕ)) (sink_faults : K → ℕ)
     (content : D → Option (List ℕ)) (faults clock : D → ℕ) (crash : D → ℕ → List ℕ → Type 0) where
-  abbrev pub run_of : S → S → K → K → D → D → Run
-  run_of script script_now out out_now disk disk_now =
+  abbrev pub run_of : S → S → K → K → D → D → List Listening → List Listening → Run
+  run_of script script_now out out_now disk disk_now heard heard_now =
       run_on content faults clock crash
       (streams (left script) (left script_now) (written out) (written out_now))
       (record { source_before = source_faults script; source_now = source_faults script_now; sink_before = sink_faults out; sink_now = sink_faults out_now })
-      disk disk_now
+      disk disk_now heard heard_now
 
 -- ---- what is written of a run that is cut off: all that some events were answered, and a front of what one more was answered
 
@@ -206,6 +213,14 @@ module _ (s : Streams) (records : List Decoded) (outcomes : List Outcome) (made 
 abbrev pub FewFaults : List Outcome → ℕ → ℕ → Type 0
 FewFaults told before now = (count_by has_faulted told + before ≤ now) ⊎ (18446744073709551615 ≤ now)
 
+-- ---- what listeners are told
+
+-- The notes of records that stand behind so many others on the disk: the number of each, counted from 1 with those others,
+-- and its payload. Numbers end at 2 ^ 64 - 1.
+abbrev pub notes_behind : ℕ → List Decoded → List Note
+notes_behind others [] = []
+notes_behind others (r ∷ records) = (min (suc others) 18446744073709551615, spelled r) ∷ notes_behind (suc others) records
+
 -- ---- how `play` ends
 
 -- The disk was opened with records, the script was read to its end, and what all of it is answered was written; P holds of
@@ -223,7 +238,8 @@ pub record AnswersAll (r : Run) (P : List (Option Answer) → Type 0) : Type 0 w
 module _ (r : Run) where
   -- The disk was opened with records; lines were taken up, with these outcomes of their commits and these attempts, each of
   -- which ended at a moment. Moments before the call keep their images. Until the end of the load a crash leaves what it might
-  -- have left at the beginning, and from then on the records that these attempts may leave.
+  -- have left at the beginning, and from then on the records that these attempts may leave. The listeners were told the
+  -- records of the attempts that were done.
   pub record WasOpened (status : ℕ) : Type 0 where
     pub records : List Decoded
     pub can_be_opened : CanBeOpened records
@@ -245,8 +261,10 @@ module _ (r : Run) where
     pub loading : (moment : ℕ) (image : List ℕ) → r.clock_before ≤ moment → moment < start → r.crash_now moment image → r.crash_before r.clock_before image
     pub crash : (moment : ℕ) (image : List ℕ) → start ≤ moment → moment ≤ r.clock_now → r.crash_now moment image → HoldsLeft SameRecords records made (ended_by moment ends) image
     pub leaves : IfSome r.content_now (λ image. HoldsLeft SameRecords records made (length made) image)
+    pub told : HaveHeard (notes_behind (length records) (done_records made)) r.heard_before r.heard_now
 
-  -- it wasn't, the source and the content are as before, and a crash leaves what it might have left at the beginning
+  -- It wasn't, and the source, the content and the listeners are as before. A crash leaves what it might have left at the
+  -- beginning.
   pub record NotOpened (status : ℕ) : Type 0 where
     pub why : Unopened
     pub is : status ≡ unopened_status why
@@ -255,6 +273,7 @@ module _ (r : Run) where
     pub content : r.content_now ≡ r.content_before
     pub kept : (moment : ℕ) (image : List ℕ) → moment < r.clock_before → r.crash_now moment image ↔ r.crash_before moment image
     pub undisturbed : (moment : ℕ) (image : List ℕ) → r.clock_before ≤ moment → moment ≤ r.clock_now → r.crash_now moment image → r.crash_before r.clock_before image
+    pub untold : r.heard_now ≡ r.heard_before
 
   abbrev pub Ends : ℕ → Type 0
   Ends status = NotOpened status ⊎ WasOpened status

@@ -4,3 +4,4 @@ pub mod ScriptReading
 pub mod Playing
 pub mod Drafts
 pub mod StoreWorlds
+pub mod Telling

@@ -10,6 +10,7 @@ ghost use Rattle.script_play.specs.Runs.{run_of, Plays};
 use crate::whole_run::play;
 use aw_cell::Text;
 use aw_disk::Disk;
+use aw_feed::{Feed, Listeners};
 use aw_io::{Sink, Source, put_all};
 use script_disk::{dump, make};
 use std::alloc::Global;
@@ -65,7 +66,9 @@ fn usage<K: Sink>(out: &mut K) -> u8
 /// the disk. See docs/LANGUAGE.md, 'Scripts' and 'Statuses', and docs/FORMATS.md, 'The journal'.
 ///
 /// - `play` opens the disk, plays the script that the source gives, and writes the transcript to the
-///   sink: each line is answered, and the answer is written, before the next is taken up.
+///   sink: each line is answered, and the answer is written, before the next is taken up. Each record
+///   that the disk has acknowledged is told the listeners of the feed, once and in order, before the
+///   answer of its line is written (docs/SHARING.md, 'Listeners').
 /// - `new` formats a disk that isn't formatted.
 /// - `dump` writes what the disk stands for.
 ///
@@ -90,8 +93,9 @@ pub fn run<S: Source, K: Sink, D: Disk>(
     script: &mut S,
     out: &mut K,
     disk: &mut D,
+    feed: &mut Feed,
 ) -> u8
-    ensures plays { spec.subcommand_of words.now ≡ Subcommand.Play → Plays (run_of S.left S.faults K.written K.faults D.content D.faults D.clock D.crash script.old script.new out.old out.new disk.old disk.new) result }
+    ensures plays { spec.subcommand_of words.now ≡ Subcommand.Play → Plays (run_of S.left S.faults K.written K.faults D.content D.faults D.clock D.crash script.old script.new out.old out.new disk.old disk.new (⟦<Feed as Listeners>⟧.listening feed.old) (⟦<Feed as Listeners>⟧.listening feed.new)) result }
     ensures makes { spec.subcommand_of words.now ≡ Subcommand.New
         → Makes D.content D.faults D.clock D.crash disk.old disk.new (K.written out.old) (K.written out.new) result }
     ensures dumps { spec.subcommand_of words.now ≡ Subcommand.Dump
@@ -109,9 +113,10 @@ pub fn run<S: Source, K: Sink, D: Disk>(
     ensures source_cause { result ≡ 3 → Rose (S.faults script.old) (S.faults script.new) }
     ensures sink_cause { result ≡ 4 → Rose (K.faults out.old) (K.faults out.new) }
     ensures disk_cause { result ≡ 5 → Rose (D.faults disk.old) (D.faults disk.new) }
+    ensures untold { spec.subcommand_of words.now ≢ Subcommand.Play → feed.new ≡ feed.old }
 {
     match subcommand_of(words) {
-        Subcommand::Play => play(alloc, script, out, disk),
+        Subcommand::Play => play(alloc, script, out, disk, feed),
         Subcommand::New => make(disk, out),
         Subcommand::Dump => dump(alloc, disk, out),
         Subcommand::Other => usage(out),

@@ -9,6 +9,7 @@ mod player;
 mod reading;
 mod response;
 mod stop;
+mod telling;
 mod turn;
 mod whole_run;
 mod world;

@@ -4,11 +4,13 @@ ghost use Rattle.aw_lists.specs.Faults.{Rose};
 ghost use Rattle.script_play.specs.inside.StoreWorlds.{IsSound};
 ghost use Rattle.script_world.specs.Worlds.{block_ends, line as event_line};
 ghost use Rattle.script_play.specs.inside.Playing.{WritesSo, WritesResponse, RespondedSo, FeedsSo, EndsLinesSo, EndsBlockSo, FinishesSo, play_of};
+ghost use Rattle.script_play.specs.inside.Telling.{HasTold};
 
 use crate::response::Response;
 use crate::stop::Stop;
 use crate::world::StoreWorld;
 use aw_disk::Disk;
+use aw_feed::{Feed, Listeners};
 use aw_io::{Sink, put_all};
 use aw_store::Store;
 use ses_step::append_line;
@@ -89,14 +91,16 @@ fn respond<D: Disk, K: Sink>(
     line: &[u8],
     text: &mut Vec<u8>,
     out: &mut K,
+    feed: &mut Feed,
 ) -> Result<bool, Stop>
     requires { IsSound world.old }
     ensures responded { RespondedSo D.faults D.clock D.crash (event_line line.now) result world.old world.new (K.written out.old) (K.written out.new) }
     ensures sound { OnOk result (IsSound world.new) }
     ensures later { K.faults out.old ≤ K.faults out.new }
     ensures cause { result ≡ Err Stop.SinkFault → Rose (K.faults out.old) (K.faults out.new) }
+    ensures told { HasTold (⟦<Feed as Listeners>⟧.listening feed.old) (⟦<Feed as Listeners>⟧.listening feed.new) world.old.store world.new.store }
 {
-    match world.answer(alloc, line) {
+    match world.answer(alloc, line, feed) {
         Ok(response) => match write_response(alloc, &response, text, out) {
             Ok(refused) => Ok(refused),
             Err(stop) => Err(stop),
@@ -117,6 +121,7 @@ fn respond_to_end<D: Disk, K: Sink>(
     ensures sound { OnOk result (IsSound world.new) }
     ensures later { K.faults out.old ≤ K.faults out.new }
     ensures cause { result ≡ Err Stop.SinkFault → Rose (K.faults out.old) (K.faults out.new) }
+    ensures store { world.new.store ≡ world.old.store }
 {
     match world.end_block(alloc) {
         Ok(response) => match write_response(alloc, &response, text, out) {
@@ -149,15 +154,16 @@ impl<D: Disk> Player<Store<D>> {
     }
 
     /// The line has ended: answers it.
-    fn end_line<K: Sink>(&mut self, out: &mut K) -> Result<(), Stop>
+    fn end_line<K: Sink>(&mut self, out: &mut K, feed: &mut Feed) -> Result<(), Stop>
         requires { IsSound self.old.world }
         ensures feeds { FeedsSo D.faults D.clock D.crash (10 ∷ []) result (play_of self.old) (K.written out.old) (play_of self.new) (K.written out.new) }
         ensures sound { OnOk result (IsSound self.new.world) }
         ensures later { K.faults out.old ≤ K.faults out.new }
         ensures cause { result ≡ Err Stop.SinkFault → Rose (K.faults out.old) (K.faults out.new) }
+        ensures told { HasTold (⟦<Feed as Listeners>⟧.listening feed.old) (⟦<Feed as Listeners>⟧.listening feed.new) self.old.world.store self.new.world.store }
     {
         let line = without_return(self.line.as_slice());
-        match respond(self.alloc, &mut self.world, line, &mut self.text, out) {
+        match respond(self.alloc, &mut self.world, line, &mut self.text, out, feed) {
             Ok(refused) => {
                 self.refused |= refused;
                 self.line.clear();
@@ -168,15 +174,16 @@ impl<D: Disk> Player<Store<D>> {
     }
 
     /// Plays one byte of the script.
-    fn feed<K: Sink>(&mut self, byte: u8, out: &mut K) -> Result<(), Stop>
+    fn play_byte<K: Sink>(&mut self, byte: u8, out: &mut K, feed: &mut Feed) -> Result<(), Stop>
         requires { IsSound self.old.world }
         ensures feeds { FeedsSo D.faults D.clock D.crash (byte ∷ []) result (play_of self.old) (K.written out.old) (play_of self.new) (K.written out.new) }
         ensures sound { OnOk result (IsSound self.new.world) }
         ensures later { K.faults out.old ≤ K.faults out.new }
         ensures cause { result ≡ Err Stop.SinkFault → Rose (K.faults out.old) (K.faults out.new) }
+        ensures told { HasTold (⟦<Feed as Listeners>⟧.listening feed.old) (⟦<Feed as Listeners>⟧.listening feed.new) self.old.world.store self.new.world.store }
     {
         if byte == b'\n' {
-            return self.end_line(out);
+            return self.end_line(out, feed);
         }
         match self.line.push(byte) {
             Ok(()) => Ok(()),
@@ -185,15 +192,21 @@ impl<D: Disk> Player<Store<D>> {
     }
 
     /// Plays the next bytes of the script.
-    pub fn feed_all<K: Sink>(&mut self, bytes: &[u8], out: &mut K) -> Result<(), Stop>
+    pub fn play_bytes<K: Sink>(
+        &mut self,
+        bytes: &[u8],
+        out: &mut K,
+        feed: &mut Feed,
+    ) -> Result<(), Stop>
         requires { IsSound self.old.world }
         ensures feeds { FeedsSo D.faults D.clock D.crash bytes.now result (play_of self.old) (K.written out.old) (play_of self.new) (K.written out.new) }
         ensures sound { OnOk result (IsSound self.new.world) }
         ensures later { K.faults out.old ≤ K.faults out.new }
         ensures cause { result ≡ Err Stop.SinkFault → Rose (K.faults out.old) (K.faults out.new) }
+        ensures told { HasTold (⟦<Feed as Listeners>⟧.listening feed.old) (⟦<Feed as Listeners>⟧.listening feed.new) self.old.world.store self.new.world.store }
     {
         for byte in bytes {
-            match self.feed(*byte, out) {
+            match self.play_byte(*byte, out, feed) {
                 Ok(()) => {}
                 Err(stop) => return Err(stop),
             }
@@ -203,18 +216,19 @@ impl<D: Disk> Player<Store<D>> {
 
     /// The script has ended: answers its last line, where that has bytes, and tells whether any line
     /// was refused.
-    fn end_lines<K: Sink>(&mut self, out: &mut K) -> Result<bool, Stop>
+    fn end_lines<K: Sink>(&mut self, out: &mut K, feed: &mut Feed) -> Result<bool, Stop>
         requires { IsSound self.old.world }
         ensures ends { EndsLinesSo D.faults D.clock D.crash result (play_of self.old) (K.written out.old) self.new.world (K.written out.new) }
         ensures sound { OnOk result (IsSound self.new.world) }
         ensures later { K.faults out.old ≤ K.faults out.new }
         ensures cause { result ≡ Err Stop.SinkFault → Rose (K.faults out.old) (K.faults out.new) }
+        ensures told { HasTold (⟦<Feed as Listeners>⟧.listening feed.old) (⟦<Feed as Listeners>⟧.listening feed.new) self.old.world.store self.new.world.store }
     {
         let line = self.line.as_slice();
         if line.is_empty() {
             return Ok(self.refused);
         }
-        match respond(self.alloc, &mut self.world, line, &mut self.text, out) {
+        match respond(self.alloc, &mut self.world, line, &mut self.text, out, feed) {
             Ok(refused) => Ok(self.refused | refused),
             Err(stop) => Err(stop),
         }
@@ -222,14 +236,15 @@ impl<D: Disk> Player<Store<D>> {
 
     /// The script has ended: answers its last line, where that has bytes, and a definition that is
     /// still open, and tells whether any line was refused.
-    fn end_script<K: Sink>(&mut self, out: &mut K) -> Result<bool, Stop>
+    fn end_script<K: Sink>(&mut self, out: &mut K, feed: &mut Feed) -> Result<bool, Stop>
         requires { IsSound self.old.world }
         ensures ends { EndsBlockSo D.faults D.clock D.crash result (play_of self.old) (K.written out.old) self.new.world (K.written out.new) }
         ensures sound { OnOk result (IsSound self.new.world) }
         ensures later { K.faults out.old ≤ K.faults out.new }
         ensures cause { result ≡ Err Stop.SinkFault → Rose (K.faults out.old) (K.faults out.new) }
+        ensures told { HasTold (⟦<Feed as Listeners>⟧.listening feed.old) (⟦<Feed as Listeners>⟧.listening feed.new) self.old.world.store self.new.world.store }
     {
-        match self.end_lines(out) {
+        match self.end_lines(out, feed) {
             Ok(refused) => {
                 match respond_to_end(self.alloc, &mut self.world, &mut self.text, out) {
                     Ok(block) => Ok(refused | block),
@@ -242,14 +257,15 @@ impl<D: Disk> Player<Store<D>> {
 
     /// The script has ended: answers its last line, where that has bytes, and a definition that is
     /// still open, writes what was only defined, and tells whether any line was refused.
-    pub fn finish<K: Sink>(&mut self, out: &mut K) -> Result<bool, Stop>
+    pub fn finish<K: Sink>(&mut self, out: &mut K, feed: &mut Feed) -> Result<bool, Stop>
         requires { IsSound self.old.world }
         ensures finishes { FinishesSo D.faults D.clock D.crash result (play_of self.old) (K.written out.old) self.new.world.store (K.written out.new) }
         ensures later { K.faults out.old ≤ K.faults out.new }
         ensures cause { result ≡ Err Stop.SinkFault → Rose (K.faults out.old) (K.faults out.new) }
+        ensures told { HasTold (⟦<Feed as Listeners>⟧.listening feed.old) (⟦<Feed as Listeners>⟧.listening feed.new) self.old.world.store self.new.world.store }
     {
-        match self.end_script(out) {
-            Ok(refused) => match self.world.finish(self.alloc) {
+        match self.end_script(out, feed) {
+            Ok(refused) => match self.world.finish(self.alloc, feed) {
                 Ok(()) => Ok(refused),
                 Err(stop) => Err(stop),
             },

@@ -5,11 +5,13 @@ ghost use Rattle.script_play.specs.inside.StoreWorlds.{IsSound};
 ghost use Rattle.script_play.specs.inside.Playing.{play_of};
 ghost use Rattle.script_play.specs.inside.ScriptReading.{ReadsFrom, EndsOrFails, stop_ending};
 ghost use Rattle.script_play.specs.Runs.{streams};
+ghost use Rattle.script_play.specs.inside.Telling.{HasTold};
 
 use crate::ending::Ending;
 use crate::player::Player;
 use crate::stop::Stop;
 use aw_disk::Disk;
+use aw_feed::{Feed, Listeners};
 use aw_io::{Sink, Source, Took};
 use aw_store::Store;
 
@@ -48,6 +50,7 @@ pub fn read<D: Disk, S: Source, K: Sink>(
     buffer: &mut [u8],
     script: &mut S,
     out: &mut K,
+    feed: &mut Feed,
 ) -> Result<(), Ending>
     requires sound { IsSound player.old.world }
     requires room { 0 < length buffer.old }
@@ -57,6 +60,7 @@ pub fn read<D: Disk, S: Source, K: Sink>(
     ensures sink_later { K.faults out.old ≤ K.faults out.new }
     ensures source_cause { result ≡ Err ending.SourceFault → Rose (S.faults script.old) (S.faults script.new) }
     ensures sink_cause { result ≡ Err ending.SinkFault → Rose (K.faults out.old) (K.faults out.new) }
+    ensures told { HasTold (⟦<Feed as Listeners>⟧.listening feed.old) (⟦<Feed as Listeners>⟧.listening feed.new) player.old.world.store player.new.world.store }
 {
     let mut room = MOST_BYTES;
     while room > 0 {
@@ -64,7 +68,7 @@ pub fn read<D: Disk, S: Source, K: Sink>(
         let piece = &mut buffer[..len];
         match script.take(piece) {
             Took::Got(count) => {
-                match player.feed_all(&piece[..count], out) {
+                match player.play_bytes(&piece[..count], out, feed) {
                     Ok(()) => {}
                     Err(stop) => return Err(ending_of(stop)),
                 }

@@ -5,12 +5,14 @@ ghost use Rattle.script_play.specs.inside.StoreWorlds.{IsSound};
 ghost use Rattle.script_play.specs.inside.Playing.{play_of, opened_play};
 ghost use Rattle.script_play.specs.inside.ScriptReading.{EndsFrom, FinishesBy};
 ghost use Rattle.script_play.specs.Runs.{streams, run_of, Ends, Plays};
+ghost use Rattle.script_play.specs.inside.Telling.{HasTold};
 
 use crate::ending::Ending;
 use crate::player::Player;
 use crate::reading::{ending_of, read};
 use crate::world::StoreWorld;
 use aw_disk::Disk;
+use aw_feed::{Feed, Listeners};
 use aw_io::{Sink, Source};
 use aw_lists::List;
 use aw_schema::Catalogue;
@@ -30,13 +32,14 @@ fn buffer(alloc: Global) -> Result<Vec<u8>, AllocError>
 }
 
 /// The script has ended: answers its last line, and writes what was only defined.
-fn finish<D: Disk, K: Sink>(player: &mut Player<Store<D>>, out: &mut K) -> Ending
+fn finish<D: Disk, K: Sink>(player: &mut Player<Store<D>>, out: &mut K, feed: &mut Feed) -> Ending
     requires { IsSound player.old.world }
     ensures finishes { FinishesBy D.faults D.clock D.crash result (play_of player.old) (K.written out.old) player.new.world.store (K.written out.new) }
     ensures later { K.faults out.old ≤ K.faults out.new }
     ensures cause { result ≡ ending.SinkFault → Rose (K.faults out.old) (K.faults out.new) }
+    ensures told { HasTold (⟦<Feed as Listeners>⟧.listening feed.old) (⟦<Feed as Listeners>⟧.listening feed.new) player.old.world.store player.new.world.store }
 {
-    match player.finish(out) {
+    match player.finish(out, feed) {
         Ok(false) => Ending::Accepted,
         Ok(true) => Ending::Refusing,
         Err(stop) => ending_of(stop),
@@ -49,6 +52,7 @@ fn play_with<D: Disk, S: Source, K: Sink>(
     buffer: &mut [u8],
     script: &mut S,
     out: &mut K,
+    feed: &mut Feed,
 ) -> Ending
     requires sound { IsSound player.old.world }
     requires room { 0 < length buffer.old }
@@ -57,9 +61,10 @@ fn play_with<D: Disk, S: Source, K: Sink>(
     ensures sink_later { K.faults out.old ≤ K.faults out.new }
     ensures source_cause { result ≡ ending.SourceFault → Rose (S.faults script.old) (S.faults script.new) }
     ensures sink_cause { result ≡ ending.SinkFault → Rose (K.faults out.old) (K.faults out.new) }
+    ensures told { HasTold (⟦<Feed as Listeners>⟧.listening feed.old) (⟦<Feed as Listeners>⟧.listening feed.new) player.old.world.store player.new.world.store }
 {
-    match read(player, buffer, script, out) {
-        Ok(()) => finish(player, out),
+    match read(player, buffer, script, out, feed) {
+        Ok(()) => finish(player, out, feed),
         Err(ending) => ending,
     }
 }
@@ -77,12 +82,14 @@ fn play_over<D: Disk, S: Source, K: Sink>(
     script: &mut S,
     out: &mut K,
     store: Store<D>,
+    feed: &mut Feed,
 ) -> Ended<Store<D>>
     ensures ends { EndsFrom D.faults D.clock D.crash (opened_play store) result.ending (streams (S.left script.old) (S.left script.new) (K.written out.old) (K.written out.new)) result.store }
     ensures source_later { S.faults script.old ≤ S.faults script.new }
     ensures sink_later { K.faults out.old ≤ K.faults out.new }
     ensures source_cause { result.ending ≡ ending.SourceFault → Rose (S.faults script.old) (S.faults script.new) }
     ensures sink_cause { result.ending ≡ ending.SinkFault → Rose (K.faults out.old) (K.faults out.new) }
+    ensures told { HasTold (⟦<Feed as Listeners>⟧.listening feed.old) (⟦<Feed as Listeners>⟧.listening feed.new) store result.store }
 {
     let mut buffer = match buffer(alloc) {
         Ok(buffer) => buffer,
@@ -101,7 +108,7 @@ fn play_over<D: Disk, S: Source, K: Sink>(
         sessions: List::new(alloc),
     };
     let mut player = Player::new(alloc, world);
-    let ending = play_with(&mut player, buffer.as_mut_slice(), script, out);
+    let ending = play_with(&mut player, buffer.as_mut_slice(), script, out, feed);
     Ended {
         ending,
         store: player.into_store(),
@@ -121,8 +128,9 @@ fn play_opened<D: Disk, S: Source, K: Sink>(
     script: &mut S,
     out: &mut K,
     disk: D,
+    feed: &mut Feed,
 ) -> Ran<D>
-    ensures ends { Ends (run_of S.left S.faults K.written K.faults D.content D.faults D.clock D.crash script.old script.new out.old out.new disk result.disk) result.status }
+    ensures ends { Ends (run_of S.left S.faults K.written K.faults D.content D.faults D.clock D.crash script.old script.new out.old out.new disk result.disk (⟦<Feed as Listeners>⟧.listening feed.old) (⟦<Feed as Listeners>⟧.listening feed.new)) result.status }
     ensures source_later { S.faults script.old ≤ S.faults script.new }
     ensures sink_later { K.faults out.old ≤ K.faults out.new }
     ensures disk_later { D.faults disk ≤ D.faults result.disk }
@@ -133,7 +141,7 @@ fn play_opened<D: Disk, S: Source, K: Sink>(
     match open(alloc, disk, out) {
         Ok(store) => {
             store.recall_invariant();
-            let ended = play_over(alloc, script, out, store);
+            let ended = play_over(alloc, script, out, store, feed);
             Ran {
                 status: ended.ending.status(),
                 disk: ended.store.into_disk(),
@@ -152,6 +160,7 @@ struct Devices<'a, S, K> {
     alloc: Global,
     script: &'a mut S,
     out: &'a mut K,
+    feed: &'a mut Feed,
 }
 
 fn play_disk<'a, D: Disk, S: Source, K: Sink>(
@@ -160,7 +169,8 @@ fn play_disk<'a, D: Disk, S: Source, K: Sink>(
 ) -> (D, (u8, Devices<'a, S, K>))
     ensures same_source { result.1.1.script.ghost_name ≡ devices.entry.script.ghost_name }
     ensures same_sink { result.1.1.out.ghost_name ≡ devices.entry.out.ghost_name }
-    ensures plays { Plays (run_of S.left S.faults K.written K.faults D.content D.faults D.clock D.crash devices.entry.script.now result.1.1.script.now devices.entry.out.now result.1.1.out.now disk result.0) result.1.0 }
+    ensures same_feed { result.1.1.feed.ghost_name ≡ devices.entry.feed.ghost_name }
+    ensures plays { Plays (run_of S.left S.faults K.written K.faults D.content D.faults D.clock D.crash devices.entry.script.now result.1.1.script.now devices.entry.out.now result.1.1.out.now disk result.0 (⟦<Feed as Listeners>⟧.listening devices.entry.feed.now) (⟦<Feed as Listeners>⟧.listening result.1.1.feed.now)) result.1.0 }
     ensures source_later { S.faults devices.entry.script.now ≤ S.faults result.1.1.script.now }
     ensures sink_later { K.faults devices.entry.out.now ≤ K.faults result.1.1.out.now }
     ensures disk_later { D.faults disk ≤ D.faults result.0 }
@@ -168,9 +178,20 @@ fn play_disk<'a, D: Disk, S: Source, K: Sink>(
     ensures sink_cause { result.1.0 ≡ 4 → Rose (K.faults devices.entry.out.now) (K.faults result.1.1.out.now) }
     ensures disk_cause { result.1.0 ≡ 5 → Rose (D.faults disk) (D.faults result.0) }
 {
-    let Devices { alloc, script, out } = devices;
-    let Ran { status, disk } = play_opened(alloc, script, out, disk);
-    (disk, (status, Devices { alloc, script, out }))
+    let Devices {
+        alloc,
+        script,
+        out,
+        feed,
+    } = devices;
+    let Ran { status, disk } = play_opened(alloc, script, out, disk, feed);
+    let devices = Devices {
+        alloc,
+        script,
+        out,
+        feed,
+    };
+    (disk, (status, devices))
 }
 
 /// Opens a disk, plays a script on it, and answers the status.
@@ -179,8 +200,9 @@ pub fn play<D: Disk, S: Source, K: Sink>(
     script: &mut S,
     out: &mut K,
     disk: &mut D,
+    feed: &mut Feed,
 ) -> u8
-    ensures plays { Plays (run_of S.left S.faults K.written K.faults D.content D.faults D.clock D.crash script.old script.new out.old out.new disk.old disk.new) result }
+    ensures plays { Plays (run_of S.left S.faults K.written K.faults D.content D.faults D.clock D.crash script.old script.new out.old out.new disk.old disk.new (⟦<Feed as Listeners>⟧.listening feed.old) (⟦<Feed as Listeners>⟧.listening feed.new)) result }
     ensures source_later { S.faults script.old ≤ S.faults script.new }
     ensures sink_later { K.faults out.old ≤ K.faults out.new }
     ensures disk_later { D.faults disk.old ≤ D.faults disk.new }
@@ -189,7 +211,12 @@ pub fn play<D: Disk, S: Source, K: Sink>(
     ensures disk_cause { result ≡ 5 → Rose (D.faults disk.old) (D.faults disk.new) }
 {
     // The store owns the disk while it is open.
-    let devices = Devices { alloc, script, out };
-    let (status, _) = replace_with(disk, devices, play_disk);
+    let devices = Devices {
+        alloc,
+        script,
+        out,
+        feed,
+    };
+    let (status, _) = replace_with(disk, devices, |disk, devices| play_disk(disk, devices));
     status
 }

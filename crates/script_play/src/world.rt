@@ -7,13 +7,16 @@ ghost use Rattle.script_meaning.specs.Language.{block_form, form_of, written};
 ghost use Rattle.script_world.specs.Worlds as spec;
 ghost use Rattle.script_play.specs.inside.StoreWorlds.{AllSee, IsSound, JoinsSo, definitions_in, own_known, own_place, placed};
 ghost use Rattle.script_play.specs.inside.LineSteps.{TurnsAt, TurnWants, Answers, Wants, OpensSo, ClosesSo, FinishesWorldSo, Responds, RespondsSo, IsOpen, IsOfSession, definition_means, ended_means, event_means, form_means, turn_means, session_means, named_means, line_means};
+ghost use Rattle.script_play.specs.inside.Telling.{HasTold};
 
 use crate::draft::{draft_lines, late};
 use crate::response::Response;
 use crate::stop::Stop;
+use crate::telling::tell_last;
 use crate::turn::take_turn;
 use aw_cell::Text;
 use aw_disk::Disk;
+use aw_feed::{Feed, Listeners};
 use aw_lists::List;
 use aw_schema::Catalogue;
 use aw_store::{Store, StoreFault};
@@ -51,6 +54,7 @@ fn take_turn_at<D: Disk>(
     who: usize,
     line: &[u8],
     from: u32,
+    feed: &mut Feed,
 ) -> Result<Answer, AllocError>
     requires here { who < length world.old.sessions }
     requires closed { IsOpen world.old.store }
@@ -59,6 +63,7 @@ fn take_turn_at<D: Disk>(
     requires within { from ≤ length line.now }
     ensures ok { IfOk result (λ answer. TurnsAt D.faults D.clock D.crash (written line.now from) answer who world.old world.new) }
     ensures err { OnErr result (TurnWants D.faults D.clock D.crash (definitions_in world.old.store) world.old.names (written line.now from) (own_known world.old who) world.old.store world.new.store) }
+    ensures told { HasTold (⟦<Feed as Listeners>⟧.listening feed.old) (⟦<Feed as Listeners>⟧.listening feed.new) world.old.store world.new.store }
 {
     let StoreWorld {
         store,
@@ -67,7 +72,7 @@ fn take_turn_at<D: Disk>(
         ..
     } = world;
     let session = sessions.at_mut(who);
-    match take_turn(alloc, names.as_slice(), store, session, line, from) {
+    match take_turn(alloc, names.as_slice(), store, session, line, from, feed) {
         Ok(answer) => Ok(answer),
         Err(full) => Err(full),
     }
@@ -107,7 +112,7 @@ impl<D: Disk> StoreWorld<Store<D>> {
     fn define_open(&mut self, alloc: Global) -> Result<Option<Response>, AllocError>
         requires { IsSound self.old }
         ensures ok { IfOk result (λ response. Responds D.faults D.clock D.crash definition_means response self.old self.new) }
-        ensures err { OnErr result (self.new.store ≡ self.old.store) }
+        ensures store { self.new.store ≡ self.old.store }
     {
         let lines = mem::replace(&mut self.open_lines, List::new(alloc));
         match self.define(alloc, &lines) {
@@ -120,7 +125,7 @@ impl<D: Disk> StoreWorld<Store<D>> {
     /// Keeps a line of a definition.
     fn keep_line(&mut self, alloc: Global, line: &[u8]) -> Result<(), AllocError>
         ensures ok { OnOk result (self.new ≡ record self.old { open_lines = self.old.open_lines ++ line.now ∷ [] }) }
-        ensures err { OnErr result (self.new.store ≡ self.old.store) }
+        ensures store { self.new.store ≡ self.old.store }
     {
         let line = List::from_slice(alloc, line)?;
         self.open_lines.push(line)
@@ -130,7 +135,7 @@ impl<D: Disk> StoreWorld<Store<D>> {
     fn end_definition(&mut self, alloc: Global, line: &[u8]) -> Result<Option<Response>, AllocError>
         requires { IsSound self.old }
         ensures ok { IfOk result (λ response. Responds D.faults D.clock D.crash (ended_means line.now) response self.old self.new) }
-        ensures err { OnErr result (self.new.store ≡ self.old.store) }
+        ensures store { self.new.store ≡ self.old.store }
     {
         match self.keep_line(alloc, line) {
             Ok(()) => {}
@@ -147,6 +152,7 @@ impl<D: Disk> StoreWorld<Store<D>> {
         requires { IsSound self.old }
         ensures responds { RespondsSo D.faults D.clock D.crash (event_means spec.block_ends) result self.old self.new }
         ensures never { result ≢ Err Stop.DiskFault }
+        ensures store { self.new.store ≡ self.old.store }
     {
         if self.open_lines.is_empty() {
             return Ok(None);
@@ -157,17 +163,21 @@ impl<D: Disk> StoreWorld<Store<D>> {
         }
     }
 
-    /// Writes the definitions that were drafted, where there are none on the disk. After an `Err`
-    /// they are gone.
-    pub fn open(&mut self, alloc: Global) -> Result<(), Stop>
+    /// Writes the definitions that were drafted, where there are none on the disk, and tells the
+    /// listeners their record. After an `Err` they are gone.
+    pub fn open(&mut self, alloc: Global, feed: &mut Feed) -> Result<(), Stop>
         requires sound { IsSound self.old }
         requires unopened { definitions_of self.old.store.records ≡ None }
         ensures opens { OpensSo D.faults D.clock D.crash result self.old self.new }
+        ensures told { HasTold (⟦<Feed as Listeners>⟧.listening feed.old) (⟦<Feed as Listeners>⟧.listening feed.new) self.old.store self.new.store }
     {
         self.store.recall_invariant();
         let drafted = mem::replace(&mut self.drafted, Catalogue::new(alloc));
         match self.store.define(drafted) {
-            Ok(()) => Ok(()),
+            Ok(()) => {
+                tell_last(&self.store, feed);
+                Ok(())
+            }
             Err(StoreFault::DiskFault) => Err(Stop::DiskFault),
             Err(StoreFault::NoMemory) => Err(Stop::NoMemory),
             Err(StoreFault::Defined) => unreachable!(),
@@ -175,23 +185,25 @@ impl<D: Disk> StoreWorld<Store<D>> {
     }
 
     /// Opens the store where it isn't open: the definitions are written, and closed so.
-    fn open_once(&mut self, alloc: Global) -> Result<(), Stop>
+    fn open_once(&mut self, alloc: Global, feed: &mut Feed) -> Result<(), Stop>
         requires { IsSound self.old }
         ensures closes { ClosesSo D.faults D.clock D.crash result self.old self.new }
+        ensures told { HasTold (⟦<Feed as Listeners>⟧.listening feed.old) (⟦<Feed as Listeners>⟧.listening feed.new) self.old.store self.new.store }
     {
         if !self.is_unopened() {
             return Ok(());
         }
-        match self.open(alloc) {
+        match self.open(alloc, feed) {
             Ok(()) => Ok(()),
             Err(stop) => Err(stop),
         }
     }
 
     /// The script has ended: writes what was only defined.
-    pub fn finish(&mut self, alloc: Global) -> Result<(), Stop>
+    pub fn finish(&mut self, alloc: Global, feed: &mut Feed) -> Result<(), Stop>
         requires { IsSound self.old }
         ensures finishes { FinishesWorldSo D.faults D.clock D.crash result self.old self.new }
+        ensures told { HasTold (⟦<Feed as Listeners>⟧.listening feed.old) (⟦<Feed as Listeners>⟧.listening feed.new) self.old.store self.new.store }
     {
         if !self.is_unopened() {
             return Ok(());
@@ -199,7 +211,7 @@ impl<D: Disk> StoreWorld<Store<D>> {
         if self.drafted.len() == 0 {
             return Ok(());
         }
-        match self.open(alloc) {
+        match self.open(alloc, feed) {
             Ok(()) => Ok(()),
             Err(stop) => Err(stop),
         }
@@ -236,6 +248,7 @@ impl<D: Disk> StoreWorld<Store<D>> {
         who: usize,
         line: &[u8],
         from: u32,
+        feed: &mut Feed,
     ) -> Result<Response, AllocError>
         requires placed { who < length self.old.sessions }
         requires closed { IsOpen self.old.store }
@@ -244,9 +257,10 @@ impl<D: Disk> StoreWorld<Store<D>> {
         requires within { from ≤ length line.now }
         ensures ok { IfOk result (λ response. Answers D.faults D.clock D.crash (turn_means who (written line.now from)) (Some response) self.old self.new) }
         ensures err { OnErr result (Wants D.faults D.clock D.crash (turn_means who (written line.now from)) self.old self.new) }
+        ensures told { HasTold (⟦<Feed as Listeners>⟧.listening feed.old) (⟦<Feed as Listeners>⟧.listening feed.new) self.old.store self.new.store }
     {
         let prefix = name_at(self.names.as_slice(), who);
-        match take_turn_at(alloc, self, who, line, from) {
+        match take_turn_at(alloc, self, who, line, from, feed) {
             Ok(answer) => Ok(Response { prefix, answer }),
             Err(full) => Err(full),
         }
@@ -259,6 +273,7 @@ impl<D: Disk> StoreWorld<Store<D>> {
         name: Text,
         line: &[u8],
         from: u32,
+        feed: &mut Feed,
     ) -> Result<Response, AllocError>
         requires paired { length self.old.sessions ≡ min (length self.old.names) 64 }
         requires closed { IsOpen self.old.store }
@@ -267,6 +282,7 @@ impl<D: Disk> StoreWorld<Store<D>> {
         requires within { from ≤ length line.now }
         ensures ok { IfOk result (λ response. Answers D.faults D.clock D.crash (session_means name (written line.now from)) (Some response) self.old self.new) }
         ensures err { OnErr result (Wants D.faults D.clock D.crash (session_means name (written line.now from)) self.old self.new) }
+        ensures told { HasTold (⟦<Feed as Listeners>⟧.listening feed.old) (⟦<Feed as Listeners>⟧.listening feed.new) self.old.store self.new.store }
     {
         let who = self.session_place(&name);
         match self.add_session(alloc, name) {
@@ -277,7 +293,7 @@ impl<D: Disk> StoreWorld<Store<D>> {
             let prefix = name_at(self.names.as_slice(), who);
             return Ok(Response::refusing(prefix, Refusal::too_many_sessions()));
         }
-        match self.turn(alloc, who, line, from) {
+        match self.turn(alloc, who, line, from, feed) {
             Ok(response) => Ok(response),
             Err(full) => Err(full),
         }
@@ -290,14 +306,16 @@ impl<D: Disk> StoreWorld<Store<D>> {
         name: Text,
         line: &[u8],
         from: u32,
+        feed: &mut Feed,
     ) -> Result<Option<Response>, Stop>
         requires sound { IsSound self.old }
         requires short { length line.now ≤ 4096 }
         requires within { from ≤ length line.now }
         ensures responds { RespondsSo D.faults D.clock D.crash (named_means name (written line.now from)) result self.old self.new }
+        ensures told { HasTold (⟦<Feed as Listeners>⟧.listening feed.old) (⟦<Feed as Listeners>⟧.listening feed.new) self.old.store self.new.store }
     {
-        match self.open_once(alloc) {
-            Ok(()) => match self.session_line(alloc, name, line, from) {
+        match self.open_once(alloc, feed) {
+            Ok(()) => match self.session_line(alloc, name, line, from, feed) {
                 Ok(response) => Ok(Some(response)),
                 Err(_) => Err(Stop::NoMemory),
             },
@@ -309,7 +327,7 @@ impl<D: Disk> StoreWorld<Store<D>> {
     fn block_line(&mut self, alloc: Global, line: &[u8]) -> Result<Option<Response>, AllocError>
         requires { IsSound self.old }
         ensures ok { IfOk result (λ response. Responds D.faults D.clock D.crash (form_means line.now (block_form line.now)) response self.old self.new) }
-        ensures err { OnErr result (self.new.store ≡ self.old.store) }
+        ensures store { self.new.store ≡ self.old.store }
     {
         if is_end(line) {
             match self.end_definition(alloc, line) {
@@ -332,7 +350,7 @@ impl<D: Disk> StoreWorld<Store<D>> {
     ) -> Result<Option<Response>, AllocError>
         requires { IsSound self.old }
         ensures ok { IfOk result (λ response. Responds D.faults D.clock D.crash (form_means line.now (form_of line.now Definition)) response self.old self.new) }
-        ensures err { OnErr result (self.new.store ≡ self.old.store) }
+        ensures store { self.new.store ≡ self.old.store }
     {
         if opens_block(line) {
             match self.keep_line(alloc, line) {
@@ -348,11 +366,17 @@ impl<D: Disk> StoreWorld<Store<D>> {
     }
 
     /// A line where no definition is open.
-    fn first_line(&mut self, alloc: Global, line: &[u8]) -> Result<Option<Response>, Stop>
+    fn first_line(
+        &mut self,
+        alloc: Global,
+        line: &[u8],
+        feed: &mut Feed,
+    ) -> Result<Option<Response>, Stop>
         requires sound { IsSound self.old }
         requires whole { self.old.open_lines ≡ [] }
         ensures responds { RespondsSo D.faults D.clock D.crash (form_means line.now (form_of line.now (line_form line.now))) result self.old self.new }
         ensures closes { result ≡ Err Stop.DiskFault → IsOfSession line.now }
+        ensures told { HasTold (⟦<Feed as Listeners>⟧.listening feed.old) (⟦<Feed as Listeners>⟧.listening feed.new) self.old.store self.new.store }
     {
         match sort_line(line) {
             LineForm::Blank => Ok(None),
@@ -361,7 +385,9 @@ impl<D: Disk> StoreWorld<Store<D>> {
                 Ok(response) => Ok(response),
                 Err(_) => Err(Stop::NoMemory),
             },
-            LineForm::Session { name, from } => match self.under_name(alloc, name, line, from) {
+            LineForm::Session { name, from } => match self.under_name(
+                alloc, name, line, from, feed,
+            ) {
                 Ok(response) => Ok(response),
                 Err(stop) => Err(stop),
             },
@@ -369,13 +395,19 @@ impl<D: Disk> StoreWorld<Store<D>> {
     }
 
     /// What a line is answered. After an `Err` the world is of no more use, but its store is.
-    pub fn answer(&mut self, alloc: Global, line: &[u8]) -> Result<Option<Response>, Stop>
+    pub fn answer(
+        &mut self,
+        alloc: Global,
+        line: &[u8],
+        feed: &mut Feed,
+    ) -> Result<Option<Response>, Stop>
         requires { IsSound self.old }
         ensures responds { RespondsSo D.faults D.clock D.crash (line_means line.now) result self.old self.new }
         ensures closes { result ≡ Err Stop.DiskFault → IsOfSession line.now × (self.old.open_lines ≡ []) }
+        ensures told { HasTold (⟦<Feed as Listeners>⟧.listening feed.old) (⟦<Feed as Listeners>⟧.listening feed.new) self.old.store self.new.store }
     {
         if self.open_lines.is_empty() {
-            return self.first_line(alloc, line);
+            return self.first_line(alloc, line, feed);
         }
         match self.block_line(alloc, line) {
             Ok(response) => Ok(response),

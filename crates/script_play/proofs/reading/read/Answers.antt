@@ -1,7 +1,8 @@
 use Rattle.std.proofs.Common.{◌≡◌, ◌≤◌, ◌+◌, ◌-◌, length, take, arith}
 use Rattle.std.proofs.lemmas.List.{length-take}
 use Rattle.script_play.specs.inside.Playing.{play_of}
-use Rattle.script_play.proofs.ScriptReading.{read_more, reads_stopped, reads_end, reads_broken, reads_full}
+use Rattle.script_play.proofs.ScriptReading.{read_nothing, read_more, reads_stopped, reads_end, reads_broken, reads_full}
+use Rattle.script_play.proofs.Told.{told_none, told_then}
 use Rattle.script_play.proofs.reading.read.Goals as goal
 
 pub returns-in-Err-clause-reads : goal.returns-in-Err-clause-reads
@@ -17,6 +18,7 @@ loop-room-preserved g c =
     record {
       sound = c.in-Ok.ensures.sound;
       read = read_more g.D.Disk.faults g.D.Disk.clock g.D.Disk.crash (play_of c.args.player.now) (take c.in-Got.count c.take.new.into) c.loop-room.invariant.read taken.gives c.in-Ok.ensures.feeds size;
+      told = told_then c.loop-room.invariant.told c.play_bytes.ensures.told;
       source_faults = omega arith;
       sink_faults = omega arith;
     }
@@ -33,3 +35,15 @@ pub returns-clause-reads : goal.returns-clause-reads
 returns-clause-reads g c =
     reads_full g.D.Disk.faults g.D.Disk.clock g.D.Disk.crash (play_of c.args.player.now) _ _ _ _ _ (play_of c.loop-room.player) c.loop-room.room c.expect_end.result
     c.loop-room.invariant.read c.loop-room-test.false c.expect_end.ensures.ends
+
+pub loop-room-init : goal.loop-room-init
+loop-room-init g c = record {
+  sound = c.requires.sound;
+  read = read_nothing g.D.Disk.faults g.D.Disk.clock g.D.Disk.crash (play_of c.args.player.now) (g.S.Source.left c.args.script.now) (g.K.Sink.written c.args.out.now);
+  told = told_none;
+  source_faults = omega arith;
+  sink_faults = omega arith;
+}
+
+pub returns-in-Err-clause-told : goal.returns-in-Err-clause-told
+returns-in-Err-clause-told g c = told_then c.loop-room.invariant.told c.play_bytes.ensures.told

@@ -5,6 +5,7 @@ use Rattle.script_world.specs.Meaning.{nothing, malformed}
 use Rattle.script_meaning.specs.Language.{form_of}
 use Rattle.script_play.specs.inside.StoreWorlds.{refusing_response}
 use Rattle.script_play.proofs.Lines.{form_as, blank_answers, bad_answers}
+use Rattle.script_play.proofs.Told.{told_none, told_same}
 use Rattle.script_play.proofs.world.StoreWorld+Store+D.first_line.Goals as goal
 
 pub returns-in-Blank-clause-responds : goal.returns-in-Blank-clause-responds
@@ -21,3 +22,15 @@ under_name-requires-clause-short g c = session_short c.args.line.now c.in-Sessio
 
 pub under_name-requires-clause-within : goal.under_name-requires-clause-within
 under_name-requires-clause-within g c = session_within c.args.line.now c.in-Session.name c.in-Session.from (sym c.sort_line.ensures ∙ c.in-Session.is)
+
+pub returns-in-Blank-clause-told : goal.returns-in-Blank-clause-told
+returns-in-Blank-clause-told g c = told_none
+
+pub returns-in-Bad-clause-told : goal.returns-in-Bad-clause-told
+returns-in-Bad-clause-told g c = told_none
+
+pub returns-in-Ok-clause-told : goal.returns-in-Ok-clause-told
+returns-in-Ok-clause-told g c = told_same _ c.args.self.now.store _ c.definition_line.ensures.store
+
+pub returns-in-Err-clause-told : goal.returns-in-Err-clause-told
+returns-in-Err-clause-told g c = told_same _ c.args.self.now.store _ c.definition_line.ensures.store

@@ -3,6 +3,7 @@ use Rattle.ses_step.specs.Sessions.{name_at}
 use Rattle.script_meaning.specs.Language.{written}
 use Rattle.script_play.specs.inside.StoreWorlds.{refusing_response}
 use Rattle.script_play.proofs.Lines.{placed_seen, session_full, session_some, session_wants}
+use Rattle.script_play.proofs.Told.{told_same}
 use Rattle.script_play.proofs.world.StoreWorld+Store+D.session_line.Goals as goal
 
 pub turn-requires-clause-seen : goal.turn-requires-clause-seen
@@ -21,3 +22,9 @@ returns-in-Ok-turn-clause-ok g c =
 pub returns-in-Err-turn-clause-err : goal.returns-in-Err-turn-clause-err
 returns-in-Err-turn-clause-err g c =
     session_wants g.D.Disk.faults g.D.Disk.clock g.D.Disk.crash c.args.name (written c.args.line.now c.args.from) c.session_place-who.result c.args.self.now c.add_session.new.self _ c.session_place-who.ensures c.if-who-ge-MOST_SESSIONS.false c.in-Ok.ensures.added c.in-Err-turn.ensures.err
+
+pub returns-in-Err-clause-told : goal.returns-in-Err-clause-told
+returns-in-Err-clause-told g c = told_same _ c.args.self.now.store _ c.add_session.ensures.store
+
+pub returns-then-who-ge-MOST_SESSIONS-clause-told : goal.returns-then-who-ge-MOST_SESSIONS-clause-told
+returns-then-who-ge-MOST_SESSIONS-clause-told g c = told_same _ c.args.self.now.store _ c.add_session.ensures.store

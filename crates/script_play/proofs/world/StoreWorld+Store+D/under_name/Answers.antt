@@ -1,5 +1,6 @@
 use Rattle.script_meaning.specs.Language.{written}
 use Rattle.script_play.proofs.Lines.{closes_open, closes_paired, closes_seen, named_answers, named_wants}
+use Rattle.script_play.proofs.Told.{told_then}
 use Rattle.script_play.proofs.world.StoreWorld+Store+D.under_name.Goals as goal
 
 pub session_line-requires-clause-paired : goal.session_line-requires-clause-paired
@@ -14,9 +15,11 @@ session_line-requires-clause-seen g c = closes_seen g.D.Disk.faults g.D.Disk.clo
 pub returns-in-Ok-session_line : goal.returns-in-Ok-session_line
 returns-in-Ok-session_line g c = record {
   responds = named_answers g.D.Disk.faults g.D.Disk.clock g.D.Disk.crash c.args.name (written c.args.line.now c.args.from) _ c.args.self.now c.open_once.new.self _ c.in-Ok.ensures.closes c.in-Ok-session_line.ensures.ok;
+  told = told_then c.open_once.ensures.told c.session_line.ensures.told;
 }
 
 pub returns-in-Err-session_line : goal.returns-in-Err-session_line
 returns-in-Err-session_line g c = record {
   responds = named_wants g.D.Disk.faults g.D.Disk.clock g.D.Disk.crash c.args.name (written c.args.line.now c.args.from) c.args.self.now c.open_once.new.self _ c.requires.sound c.in-Ok.ensures.closes c.in-Err-session_line.ensures.err;
+  told = told_then c.open_once.ensures.told c.session_line.ensures.told;
 }
