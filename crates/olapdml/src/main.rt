@@ -5,6 +5,7 @@
 
 use aw_cell::Text;
 use aw_disk::FileDisk;
+use aw_feed::Feed;
 use aw_io::{StdSink, StdSource};
 use script_play::run;
 use std::fs::{File, OpenOptions};
@@ -146,7 +147,16 @@ fn work(rt: &HostRuntime, path: &str, words: &[Text]) -> u8 {
     let mut disk = FileDisk::open(rt, path);
     let mut script = StdSource::new(rt.reader());
     let mut out = StdSink::new(io::writer(rt));
-    let status = run(rt.alloc(), words, &mut script, &mut out, &mut disk);
+    // Nobody listens yet.
+    let mut feed = Feed::new(Vec::new(rt.alloc()));
+    let status = run(
+        rt.alloc(),
+        words,
+        &mut script,
+        &mut out,
+        &mut disk,
+        &mut feed,
+    );
     match status {
         SCRIPT_FAILED => complain(rt, "standard input", script.error()),
         OUTPUT_FAILED => complain(rt, "standard output", out.error()),

@@ -5,6 +5,8 @@
 #[cfg(test)]
 mod limit;
 #[cfg(test)]
+mod listening;
+#[cfg(test)]
 mod opening;
 #[cfg(test)]
 mod playing;

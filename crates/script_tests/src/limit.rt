@@ -1,5 +1,6 @@
 use aw_cell::Text;
 use aw_disk::SureDisk;
+use aw_feed::Feed;
 use aw_io::{StdSource, SureSink};
 use script_play::run;
 use std::alloc::{AllocError, Global};
@@ -44,6 +45,7 @@ fn asks_once(alloc: Global, goes_on: bool, status: u8) -> Result<bool, AllocErro
     };
     let mut out = SureSink::new(alloc, 9)?;
     let mut disk = SureDisk::new(alloc, b"OLAPMW1\n\0", 9)?;
+    let mut feed = Feed::new(Vec::new(alloc));
     let Some(word) = Text::of(b"play") else {
         return Ok(false);
     };
@@ -53,6 +55,7 @@ fn asks_once(alloc: Global, goes_on: bool, status: u8) -> Result<bool, AllocErro
         &mut StdSource::new(&mut line),
         &mut out,
         &mut disk,
+        &mut feed,
     );
     Ok((ended == status) & (line.asked == 1))
 }

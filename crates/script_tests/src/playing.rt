@@ -1,5 +1,6 @@
 use aw_cell::Text;
 use aw_disk::{Disk, MemDisk, Pick, SureDisk};
+use aw_feed::Feed;
 use aw_io::{MemSink, MemSource, NoMemory, Sink, Source, SureSink, SureSource};
 use aw_lists::List;
 use script_play::run;
@@ -59,7 +60,7 @@ fn so(found: Result<bool, NoMemory>) -> bool {
     }
 }
 
-// The status of a run of one word.
+// The status of a run of one word to which nobody listens.
 fn run_word<S: Source, K: Sink, D: Disk>(
     alloc: Global,
     word: &[u8],
@@ -67,8 +68,9 @@ fn run_word<S: Source, K: Sink, D: Disk>(
     out: &mut K,
     disk: &mut D,
 ) -> u8 {
+    let mut feed = Feed::new(Vec::new(alloc));
     match Text::of(word) {
-        Some(word) => run(alloc, &[word], script, out, disk),
+        Some(word) => run(alloc, &[word], script, out, disk, &mut feed),
         None => 255,
     }
 }
