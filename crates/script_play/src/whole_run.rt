@@ -5,14 +5,14 @@ ghost use Rattle.script_play.specs.inside.StoreWorlds.{IsSound};
 ghost use Rattle.script_play.specs.inside.Playing.{play_of, opened_play};
 ghost use Rattle.script_play.specs.inside.ScriptReading.{EndsFrom, FinishesBy};
 ghost use Rattle.script_play.specs.Runs.{streams, run_of, Ends, Plays};
-ghost use Rattle.script_play.specs.inside.Telling.{HasTold};
+ghost use Rattle.script_play.specs.inside.Telling.{HasTold, listening_by};
 
 use crate::ending::Ending;
 use crate::player::Player;
 use crate::reading::{ending_of, read};
 use crate::world::StoreWorld;
 use aw_disk::Disk;
-use aw_feed::{Feed, Listeners};
+use aw_feed::{Feed, Listener, Listeners};
 use aw_io::{Sink, Source};
 use aw_lists::List;
 use aw_schema::Catalogue;
@@ -217,6 +217,21 @@ pub fn play<D: Disk, S: Source, K: Sink>(
         out,
         feed,
     };
-    let (status, _) = replace_with(disk, devices, |disk, devices| play_disk(disk, devices));
+    let (status, _) = replace_with(
+        disk,
+        devices,
+        |disk, devices| -> (D, (u8, Devices<'_, S, K>))
+            ensures same_source { result.1.1.script.ghost_name ≡ devices.entry.script.ghost_name }
+            ensures same_sink { result.1.1.out.ghost_name ≡ devices.entry.out.ghost_name }
+            ensures same_feed { result.1.1.feed.ghost_name ≡ devices.entry.feed.ghost_name }
+            ensures plays { Plays (run_of S.left S.faults K.written K.faults D.content D.faults D.clock D.crash devices.entry.script.now result.1.1.script.now devices.entry.out.now result.1.1.out.now disk result.0 (listening_by devices.entry.feed.now.listeners.items (λ listener. record { told = told (listener.vtable, listener.value); last = last (listener.vtable, listener.value) })) (listening_by result.1.1.feed.now.listeners.items (λ listener. record { told = told (listener.vtable, listener.value); last = last (listener.vtable, listener.value) }))) result.1.0 }
+            ensures source_later { S.faults devices.entry.script.now ≤ S.faults result.1.1.script.now }
+            ensures sink_later { K.faults devices.entry.out.now ≤ K.faults result.1.1.out.now }
+            ensures disk_later { D.faults disk ≤ D.faults result.0 }
+            ensures source_cause { result.1.0 ≡ 3 → Rose (S.faults devices.entry.script.now) (S.faults result.1.1.script.now) }
+            ensures sink_cause { result.1.0 ≡ 4 → Rose (K.faults devices.entry.out.now) (K.faults result.1.1.out.now) }
+            ensures disk_cause { result.1.0 ≡ 5 → Rose (D.faults disk) (D.faults result.0) }
+        { play_disk(disk, devices) },
+    );
     status
 }

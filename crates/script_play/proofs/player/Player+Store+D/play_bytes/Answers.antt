@@ -30,7 +30,7 @@ loop-byte-preserved g c =
     record {
       sound = c.in-Ok.ensures.sound;
       fed = subst (λ (all : List ℕ). Feeds g.D.Disk.faults g.D.Disk.clock g.D.Disk.crash all (play_of c.args.self.now) (g.K.Sink.written c.args.out.now) (play_of c.play_byte.new.self) (g.K.Sink.written c.play_byte.new.out))
-      (sym (take_more bytes i 0 within)) (Feeds-append g.D.Disk.faults g.D.Disk.clock g.D.Disk.crash c.loop-byte.invariant.fed c.in-Ok.ensures.feeds);
+          (sym (take_more bytes i 0 within)) (Feeds-append g.D.Disk.faults g.D.Disk.clock g.D.Disk.crash c.loop-byte.invariant.fed c.in-Ok.ensures.feeds);
       told = told_then c.loop-byte.invariant.told c.play_byte.ensures.told;
       faults = omega arith;
     }
