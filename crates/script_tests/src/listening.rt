@@ -68,7 +68,7 @@ fn plays(alloc: Global, listeners: Vec<Box<dyn Listener>>) -> Result<bool, Alloc
 fn hear(alloc: Global, lasts: &[Option<u64>], notes: u64) -> Result<bool, AllocError> {
     let digits = Rc::new(alloc, Cell::new(0))?;
     let mut listeners: Vec<Box<dyn Listener>> = Vec::new(alloc);
-    let mut name = 0;
+    let mut name = 0u64;
     for last in lasts {
         name = name.wrapping_add(1);
         let digits = digits.clone()?;
