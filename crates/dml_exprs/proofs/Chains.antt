@@ -1,6 +1,6 @@
 -- How the loops over operators, which group to the left, go through the grammar.
-use Rattle.std.specs.Prelude.{true, ◌≡◌, List, [], ◌∷◌}
-use Rattle.std.proofs.Common.{◌∙◌, ap, sym}
+use Rattle.std.specs.Prelude.{true, ◌≡◌, List, [], ◌∷◌, Result, Ok}
+use Rattle.std.proofs.Common.{◌∙◌, ap, sym, subst}
 use Rattle.dml_tree.specs.declared.word.Word.TheVariants as w
 use Rattle.dml_tree.specs.declared.token.Symbol.TheVariants as y
 use Rattle.dml_tree.specs.declared.token.Sort.TheVariants as s
@@ -9,13 +9,22 @@ use Rattle.dml_tree.specs.declared.expr.Expr.TheVariants as e
 use Rattle.dml_tree.specs.declared.expr.Joint.{Joint}
 use Rattle.dml_tree.specs.declared.expr.Joint.TheVariants as j
 use Rattle.dml_forms.specs.Forms.{goes}
-use Rattle.dml_forms.specs.inside.LookAhead.{found}
+use Rattle.dml_forms.specs.inside.LookAhead.{Outcome, found}
 use Rattle.dml_grammar.specs.declared.placed.Placed.{Placed}
+use Rattle.dml_grammar.specs.declared.fault.Fault.{Fault}
 use Rattle.dml_grammar.specs.Sorts.{sort, symbols_of}
 use Rattle.dml_grammar.specs.Grammar as g
 use Rattle.dml_grammar.specs.inside.Tables.{reads}
-use Rattle.dml_grammar.specs.inside.Steps.{comes}
+use Rattle.dml_grammar.specs.inside.Steps.{Read, comes}
 use Rattle.dml_grammar.proofs.callers.Steps.{reads_is, same_part}
+
+-- what a step read, where its result was handed on
+pub taken : {A : Type 0} (o : Outcome Placed A) (r : Result A Fault) (x : A) (ys : List Placed) → Read o r ys → r ≡ Ok x → o ≡ found x ys
+taken {A} o r x ys read same = subst (λ (r : Result A Fault). Read o r ys) same read
+
+-- the left side, held through two steps
+pub same_left : (o : Joint) (l m n r t : Expr) → m ≡ l → n ≡ m → t ≡ e.Joined o n r → t ≡ e.Joined o l r
+same_left o l m n r t here there made = made ∙ ap (λ (v : Expr). e.Joined o v r) (there ∙ here)
 
 pub prod_first : (xs ys : List Placed) (l : Expr) → reads g.unary xs ≡ found l ys → reads g.prod xs ≡ reads (g.more_prod l) ys
 prod_first xs ys l at = reads_is g.prod xs ∙ rw at (same_part (reads (g.more_prod l) ys))

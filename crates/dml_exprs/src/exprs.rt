@@ -6,6 +6,7 @@ ghost use Rattle.dml_grammar.specs.inside.Tables.{reads, literals};
 ghost use Rattle.dml_grammar.specs.inside.Steps.{Read};
 ghost use Rattle.dml_exprs.specs.Nesting.{Nests};
 
+use crate::held::{followed, three_boxes, two_boxes, with};
 use crate::targets::target;
 use dml_cursor::Tokens;
 use dml_grammar::Fault;
@@ -16,15 +17,15 @@ use std::alloc::{AllocError, Global};
 fn joined(alloc: Global, joint: Joint, left: Expr, right: Expr) -> Result<Expr, AllocError>
     ensures { IfOk result (λ e. e ≡ Expr.Joined joint left right) }
 {
-    Ok(Expr::Joined(joint, Boxed::new(alloc, left)?, Boxed::new(alloc, right)?))
+    let (left, right) = two_boxes(alloc, left, right)?;
+    Ok(Expr::Joined(joint, left, right))
 }
 
 fn chosen(alloc: Global, test: Expr, one: Expr, other: Expr) -> Result<Expr, AllocError>
     ensures { IfOk result (λ e. e ≡ Expr.If test one other) }
 {
-    let test = Boxed::new(alloc, test)?;
-    let one = Boxed::new(alloc, one)?;
-    Ok(Expr::If(test, one, Boxed::new(alloc, other)?))
+    let (test, one, other) = three_boxes(alloc, test, one, other)?;
+    Ok(Expr::If(test, one, other))
 }
 
 #[tactic(auto, using(crate::proofs::Rules::literal_is, crate::proofs::Rules::same_part))]
@@ -93,9 +94,7 @@ impl<F: Fn(Global, &mut Tokens<'_>) -> Result<Expr, Fault>> Expressions<F> {
         ensures less { length tokens.new.rest.now ≤ length tokens.old.rest.now }
     {
         tokens.symbol(Symbol::Open)?;
-        let value = self.expr(tokens)?;
-        tokens.symbol(Symbol::Close)?;
-        Ok(value)
+        followed(self.expr(tokens)?, tokens.symbol(Symbol::Close))
     }
 
     #[tactic(auto, using(crate::proofs::Rules::pair_is))]
@@ -107,10 +106,9 @@ impl<F: Fn(Global, &mut Tokens<'_>) -> Result<Expr, Fault>> Expressions<F> {
     {
         let joint = tokens.function()?;
         tokens.symbol(Symbol::Open)?;
-        let left = self.expr(tokens)?;
-        tokens.symbol(Symbol::Comma)?;
-        let right = self.expr(tokens)?;
-        tokens.symbol(Symbol::Close)?;
+        let left = followed(self.expr(tokens)?, tokens.symbol(Symbol::Comma))?;
+        let both = with(left, self.expr(tokens))?;
+        let (left, right) = followed(both, tokens.symbol(Symbol::Close))?;
         Ok(joined(self.alloc, joint, left, right)?)
     }
 
@@ -163,9 +161,9 @@ impl<F: Fn(Global, &mut Tokens<'_>) -> Result<Expr, Fault>> Expressions<F> {
     {
         let mut left = self.unary(tokens)?;
         while tokens.sees_sign(&[Symbol::Star, Symbol::Slash]) {
-            let sign = tokens.multiplicative()?;
-            let right = self.unary(tokens)?;
-            left = joined(self.alloc, sign, left, right)?;
+            let (first, sign) = with(left, tokens.multiplicative())?;
+            let (first, right) = with(first, self.unary(tokens))?;
+            left = joined(self.alloc, sign, first, right)?;
         }
         Ok(left)
     }
@@ -179,9 +177,9 @@ impl<F: Fn(Global, &mut Tokens<'_>) -> Result<Expr, Fault>> Expressions<F> {
     {
         let mut left = self.product(tokens)?;
         while tokens.sees_sign(&[Symbol::Plus, Symbol::Minus]) {
-            let sign = tokens.additive()?;
-            let right = self.product(tokens)?;
-            left = joined(self.alloc, sign, left, right)?;
+            let (first, sign) = with(left, tokens.additive())?;
+            let (first, right) = with(first, self.product(tokens))?;
+            left = joined(self.alloc, sign, first, right)?;
         }
         Ok(left)
     }
@@ -197,8 +195,8 @@ impl<F: Fn(Global, &mut Tokens<'_>) -> Result<Expr, Fault>> Expressions<F> {
         if !tokens.sees_one(&[Word::Eq, Word::Ne, Word::Lt, Word::Le, Word::Gt, Word::Ge]) {
             return Ok(left);
         }
-        let order = tokens.comparison()?;
-        let right = self.sum(tokens)?;
+        let (left, order) = with(left, tokens.comparison())?;
+        let (left, right) = with(left, self.sum(tokens))?;
         Ok(joined(self.alloc, order, left, right)?)
     }
 
@@ -226,9 +224,9 @@ impl<F: Fn(Global, &mut Tokens<'_>) -> Result<Expr, Fault>> Expressions<F> {
     {
         let mut left = self.negation(tokens)?;
         while tokens.sees_word(Word::And) {
-            tokens.word(Word::And)?;
-            let right = self.negation(tokens)?;
-            left = joined(self.alloc, Joint::And, left, right)?;
+            let first = followed(left, tokens.word(Word::And))?;
+            let (first, right) = with(first, self.negation(tokens))?;
+            left = joined(self.alloc, Joint::And, first, right)?;
         }
         Ok(left)
     }
@@ -242,9 +240,9 @@ impl<F: Fn(Global, &mut Tokens<'_>) -> Result<Expr, Fault>> Expressions<F> {
     {
         let mut left = self.conjunction(tokens)?;
         while tokens.sees_word(Word::Or) {
-            tokens.word(Word::Or)?;
-            let right = self.conjunction(tokens)?;
-            left = joined(self.alloc, Joint::Or, left, right)?;
+            let first = followed(left, tokens.word(Word::Or))?;
+            let (first, right) = with(first, self.conjunction(tokens))?;
+            left = joined(self.alloc, Joint::Or, first, right)?;
         }
         Ok(left)
     }
@@ -260,11 +258,10 @@ impl<F: Fn(Global, &mut Tokens<'_>) -> Result<Expr, Fault>> Expressions<F> {
             return self.disjunction(tokens);
         }
         tokens.word(Word::If)?;
-        let test = self.expr(tokens)?;
-        tokens.word(Word::Then)?;
-        let one = self.expr(tokens)?;
-        tokens.word(Word::Else)?;
-        let other = self.expr(tokens)?;
+        let test = followed(self.expr(tokens)?, tokens.word(Word::Then))?;
+        let both = with(test, self.expr(tokens))?;
+        let both = followed(both, tokens.word(Word::Else))?;
+        let ((test, one), other) = with(both, self.expr(tokens))?;
         Ok(chosen(self.alloc, test, one, other)?)
     }
 }

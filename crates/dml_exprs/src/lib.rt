@@ -2,7 +2,9 @@
 #![tactic(auto)]
 
 mod exprs;
+mod held;
 mod targets;
 
 pub use exprs::expr;
+pub use held::{followed, with};
 pub use targets::{names, target, texts};

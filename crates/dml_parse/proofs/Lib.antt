@@ -1,3 +1,4 @@
 mod Answers
 mod BlockLoops
+mod InsideSteps
 mod Rules

@@ -1,6 +1,5 @@
 -- What each part reads that a function here reads, by its rule: a lemma a part, so that a proof opens this rule alone.
 use Rattle.std.specs.Prelude.{ℕ, ◌≡◌, List}
-use Rattle.dml_tree.specs.declared.expr.Expr.{Expr}
 use Rattle.dml_tree.specs.declared.definition.Local.{Local}
 use Rattle.dml_tree.specs.declared.definition.MapLine.{MapLine}
 use Rattle.dml_tree.specs.declared.definition.Step.{Step}
@@ -44,18 +43,6 @@ statement_is xs = steps.reads_is g.statement xs
 
 pub step_is : (xs : List Placed) → reads g.step xs ≡ parse sort first reads (rule g.step) xs
 step_is xs = steps.reads_is g.step xs
-
-pub otherwise_is : (line : ℕ) (test : Expr) (one : List Step) (xs : List Placed) → reads (g.otherwise line test one) xs ≡ parse sort first reads (rule (g.otherwise line test one)) xs
-otherwise_is line test one xs = steps.reads_is (g.otherwise line test one) xs
-
-pub choice_is : (xs : List Placed) → reads g.choice xs ≡ parse sort first reads (rule g.choice) xs
-choice_is xs = steps.reads_is g.choice xs
-
-pub while_is : (xs : List Placed) → reads g.while xs ≡ parse sort first reads (rule g.while) xs
-while_is xs = steps.reads_is g.while xs
-
-pub for_is : (xs : List Placed) → reads g.for xs ≡ parse sort first reads (rule g.for) xs
-for_is xs = steps.reads_is g.for xs
 
 pub steps_is : (front : List Step) (xs : List Placed) → reads (g.steps front) xs ≡ parse sort first reads (rule (g.steps front)) xs
 steps_is front xs = steps.reads_is (g.steps front) xs

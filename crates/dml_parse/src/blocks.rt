@@ -3,11 +3,12 @@ ghost use Rattle.dml_forms.specs.Forms.{goes};
 ghost use Rattle.dml_grammar.specs.Sorts.{sort};
 ghost use Rattle.dml_grammar.specs.Grammar as g;
 ghost use Rattle.dml_grammar.specs.inside.Tables.{reads, simple_starts, step_starts};
+ghost use Rattle.dml_parse.specs.Inside.{inside};
 ghost use Rattle.dml_parse.specs.Nesting.{NestsSteps};
 ghost use Rattle.dml_grammar.specs.inside.Steps.{Read, comes};
 
 use dml_cursor::Tokens;
-use dml_exprs::expr;
+use dml_exprs::{expr, followed, with};
 use dml_grammar::Fault;
 use dml_simple::simple;
 use dml_tree::{Expr, Sort, Step, Word};
@@ -53,8 +54,7 @@ fn plain_step(alloc: Global, tokens: &mut Tokens<'_>) -> Result<Step, Fault>
     ensures less { length tokens.new.rest.now ≤ length tokens.old.rest.now }
     ensures fewer { OnOk result (length tokens.new.rest.now < length tokens.old.rest.now) }
 {
-    let statement = simple(alloc, tokens)?;
-    let line = tokens.ending_line()?;
+    let (statement, line) = with(simple(alloc, tokens)?, tokens.ending_line())?;
     Ok(Step::Plain(line, statement))
 }
 
@@ -90,7 +90,20 @@ impl<F: Fn(Global, &mut Tokens<'_>) -> Result<Items<Step>, Fault>> Blocks<F> {
         (self.steps)(self.alloc, tokens)
     }
 
-    #[tactic(auto, using(crate::proofs::Rules::otherwise_is))]
+    /// Reads DO, the end of its line and the steps up to DOEND.
+    #[tactic(auto, using(crate::proofs::InsideSteps::inside_is, crate::proofs::Rules::same_part))]
+    fn inside(&self, tokens: &mut Tokens<'_>) -> Result<Items<Step>, Fault>
+        requires nests { NestsSteps self.now.most (F.pre self.now.steps) (F.post self.now.steps) }
+        requires inside { length tokens.old.rest.now ≤ self.now.most }
+        ensures read { Read (inside tokens.old.rest.now) result tokens.new.rest.now }
+        ensures less { length tokens.new.rest.now ≤ length tokens.old.rest.now }
+    {
+        tokens.word(Word::Do)?;
+        tokens.line_end()?;
+        self.steps(tokens)
+    }
+
+    #[tactic(auto, using(crate::proofs::InsideSteps::otherwise_is))]
     fn otherwise(
         &self,
         line: u32,
@@ -106,14 +119,12 @@ impl<F: Fn(Global, &mut Tokens<'_>) -> Result<Items<Step>, Fault>> Blocks<F> {
         if !tokens.sees_word(Word::Else) {
             return Ok(Step::If(line, test, one, Items::new(self.alloc)));
         }
-        tokens.word(Word::Else)?;
-        tokens.word(Word::Do)?;
-        tokens.line_end()?;
-        let other = self.steps(tokens)?;
+        let front = followed((test, one), tokens.word(Word::Else))?;
+        let ((test, one), other) = with(front, self.inside(tokens))?;
         Ok(Step::If(line, test, one, other))
     }
 
-    #[tactic(auto, using(crate::proofs::Rules::choice_is, crate::proofs::Rules::same_part))]
+    #[tactic(auto, using(crate::proofs::InsideSteps::choice_is, crate::proofs::Rules::same_part))]
     fn choice(&self, tokens: &mut Tokens<'_>) -> Result<Step, Fault>
         requires nests { NestsSteps self.now.most (F.pre self.now.steps) (F.post self.now.steps) }
         requires inside { length tokens.old.rest.now ≤ self.now.most }
@@ -122,15 +133,12 @@ impl<F: Fn(Global, &mut Tokens<'_>) -> Result<Items<Step>, Fault>> Blocks<F> {
         ensures fewer { OnOk result (length tokens.new.rest.now < length tokens.old.rest.now) }
     {
         let line = tokens.line_of(Word::If)?;
-        let test = expr(self.alloc, tokens)?;
-        tokens.word(Word::Then)?;
-        tokens.word(Word::Do)?;
-        tokens.line_end()?;
-        let one = self.steps(tokens)?;
+        let test = followed(expr(self.alloc, tokens)?, tokens.word(Word::Then))?;
+        let (test, one) = with(test, self.inside(tokens))?;
         self.otherwise(line, test, one, tokens)
     }
 
-    #[tactic(auto, using(crate::proofs::Rules::while_is))]
+    #[tactic(auto, using(crate::proofs::InsideSteps::while_is))]
     fn while_step(&self, tokens: &mut Tokens<'_>) -> Result<Step, Fault>
         requires nests { NestsSteps self.now.most (F.pre self.now.steps) (F.post self.now.steps) }
         requires inside { length tokens.old.rest.now ≤ self.now.most }
@@ -139,13 +147,11 @@ impl<F: Fn(Global, &mut Tokens<'_>) -> Result<Items<Step>, Fault>> Blocks<F> {
         ensures fewer { OnOk result (length tokens.new.rest.now < length tokens.old.rest.now) }
     {
         let line = tokens.line_of(Word::While)?;
-        let test = expr(self.alloc, tokens)?;
-        tokens.word(Word::Do)?;
-        tokens.line_end()?;
-        Ok(Step::While(line, test, self.steps(tokens)?))
+        let (test, steps) = with(expr(self.alloc, tokens)?, self.inside(tokens))?;
+        Ok(Step::While(line, test, steps))
     }
 
-    #[tactic(auto, using(crate::proofs::Rules::for_is))]
+    #[tactic(auto, using(crate::proofs::InsideSteps::for_is))]
     fn for_step(&self, tokens: &mut Tokens<'_>) -> Result<Step, Fault>
         requires nests { NestsSteps self.now.most (F.pre self.now.steps) (F.post self.now.steps) }
         requires inside { length tokens.old.rest.now ≤ self.now.most }
@@ -154,10 +160,8 @@ impl<F: Fn(Global, &mut Tokens<'_>) -> Result<Items<Step>, Fault>> Blocks<F> {
         ensures fewer { OnOk result (length tokens.new.rest.now < length tokens.old.rest.now) }
     {
         let line = tokens.line_of(Word::For)?;
-        let dimension = tokens.name()?;
-        tokens.word(Word::Do)?;
-        tokens.line_end()?;
-        Ok(Step::For(line, dimension, self.steps(tokens)?))
+        let (dimension, steps) = with(tokens.name()?, self.inside(tokens))?;
+        Ok(Step::For(line, dimension, steps))
     }
 
     #[tactic(auto, using(crate::proofs::Rules::step_is, crate::proofs::Rules::same_part))]

@@ -7,7 +7,7 @@ use crate::maps::map;
 use crate::programs::body;
 use aw_lists::List;
 use dml_cursor::Tokens;
-use dml_exprs::{expr, names};
+use dml_exprs::{expr, names, with};
 use dml_grammar::Fault;
 use dml_tree::{Defined, Definition, Symbol, Word};
 use std::alloc::Global;
@@ -50,8 +50,7 @@ fn formula(alloc: Global, tokens: &mut Tokens<'_>) -> Result<Defined, Fault>
     ensures less { length tokens.new.rest.now ≤ length tokens.old.rest.now }
 {
     let from = tokens.formula_from()?;
-    let value = expr(alloc, tokens)?;
-    let to = tokens.formula_to()?;
+    let (value, to) = with(expr(alloc, tokens)?, tokens.formula_to())?;
     Ok(Defined::Formula(value, from, to))
 }
 

@@ -6,7 +6,7 @@ ghost use Rattle.dml_grammar.specs.inside.Steps.{Read};
 use aw_cell::Text;
 use aw_lists::List;
 use dml_cursor::Tokens;
-use dml_exprs::{names, texts};
+use dml_exprs::{followed, names, texts};
 use dml_grammar::Fault;
 use dml_simple::simple;
 use dml_tree::{Mode, Place, Sort, Statement, Word};
@@ -198,7 +198,5 @@ pub(crate) fn whole_line(alloc: Global, tokens: &mut Tokens<'_>) -> Result<State
     ensures read { Read (reads g.statement tokens.old.rest.now) result tokens.new.rest.now }
     ensures less { length tokens.new.rest.now ≤ length tokens.old.rest.now }
 {
-    let statement = line(alloc, tokens)?;
-    tokens.line_end()?;
-    Ok(statement)
+    followed(line(alloc, tokens)?, tokens.line_end())
 }

@@ -3,17 +3,22 @@ use dml_tree::tokens;
 use std::alloc::Global;
 use std::test::Fail;
 
+/// Whether this is a statement, or a refusal in the column behind the line.
+fn is_read_to<T: Drop>(read: Result<T, ParseFault>, behind: usize) -> bool {
+    match read {
+        Ok(_) => true,
+        Err(ParseFault::Syntax { line: 0, column }) => column as usize == behind,
+        Err(_) => false,
+    }
+}
+
 /// Whether a line is a statement, or ends too early.
 fn is_front(alloc: Global, line: &[u8]) -> Result<bool, Fail> {
     if line.len() > 4_096 {
         return Ok(false);
     }
     let tokens = tokens(alloc, line, 0).ok().ok_or("tokens")?;
-    match statement(alloc, &tokens) {
-        Ok(_) => Ok(true),
-        Err(ParseFault::Syntax { line: 0, column }) => Ok(column as usize == line.len() + 1),
-        Err(_) => Ok(false),
-    }
+    Ok(is_read_to(statement(alloc, &tokens), line.len() + 1))
 }
 
 /// Whether each of a line's tokens is the last one of such a line.

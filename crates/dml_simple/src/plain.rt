@@ -6,7 +6,7 @@ ghost use Rattle.dml_grammar.specs.inside.Steps.{Read};
 use crate::selects::select;
 use aw_lists::List;
 use dml_cursor::Tokens;
-use dml_exprs::{expr, target};
+use dml_exprs::{expr, followed, target, with};
 use dml_grammar::Fault;
 use dml_tree::{Expr, Sort, Statement, Symbol, Word};
 use std::alloc::Global;
@@ -91,9 +91,9 @@ pub fn simple(alloc: Global, tokens: &mut Tokens<'_>) -> Result<Statement, Fault
     ensures less { length tokens.new.rest.now ≤ length tokens.old.rest.now }
 {
     if tokens.sees(Sort::Name) {
-        let to = target(alloc, tokens)?;
-        tokens.symbol(Symbol::Equals)?;
-        return Ok(Statement::Assign(to, expr(alloc, tokens)?));
+        let to = followed(target(alloc, tokens)?, tokens.symbol(Symbol::Equals))?;
+        let (to, value) = with(to, expr(alloc, tokens))?;
+        return Ok(Statement::Assign(to, value));
     }
     if tokens.sees_word(Word::Show) {
         tokens.word(Word::Show)?;

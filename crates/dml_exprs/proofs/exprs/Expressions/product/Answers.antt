@@ -1,9 +1,9 @@
 use Rattle.std.proofs.Common.{◌∙◌, sym, arith}
-use Rattle.dml_exprs.proofs.Chains.{prod_first, prod_more}
+use Rattle.dml_exprs.proofs.Chains.{prod_first, prod_more, taken, same_left}
 use Rattle.dml_exprs.proofs.exprs.Expressions.product.Goals as goal
 
-pub loop-tokens-init : goal.loop-tokens-init
-loop-tokens-init o c = (prod_first _ _ _ c.in_ok-left.ensures.read, omega arith)
+pub loop-left-init : goal.loop-left-init
+loop-left-init o c = (prod_first _ _ _ c.in_ok-left.ensures.read, omega arith)
 
-pub loop-tokens-preserved : goal.loop-tokens-preserved
-loop-tokens-preserved o c = (c.loop-tokens.invariant.0 ∙ prod_more _ _ _ _ _ _ _ (sym c.sees_sign.ensures ∙ c.loop-tokens-test.true) c.in_ok-sign.ensures.read c.in_ok-right.ensures.read c.in_ok-left-2.ensures, omega arith)
+pub loop-left-preserved : goal.loop-left-preserved
+loop-left-preserved o c = (c.loop-left.invariant.0 ∙ prod_more _ _ _ _ _ _ _ (sym c.sees_sign.ensures ∙ c.loop-left-test.true) (taken _ c.multiplicative.result _ c.multiplicative.new.self.rest.now c.multiplicative.ensures.read c.in_ok-first.ensures.0) (taken _ c.unary-in-loop-left.result _ c.unary-in-loop-left.new.tokens.rest.now c.unary-in-loop-left.ensures.read c.in_ok-first-2.ensures.0) (same_left _ _ _ _ _ _ c.in_ok-first.ensures.1 c.in_ok-first-2.ensures.1 c.in_ok-left-2.ensures), omega arith)

@@ -3,8 +3,8 @@ use Rattle.dml_grammar.specs.Grammar as g
 use Rattle.dml_grammar.specs.inside.Tables.{reads}
 use Rattle.dml_exprs.proofs.exprs.Expressions.sum.Given as goal
 
-abbrev pub invariant-loop-tokens : goal.invariant-loop-tokens
-invariant-loop-tokens o l = (reads g.sum l.fn.tokens.rest.now ≡ reads (g.more_sum l.left) l.tokens.rest.now) × (length l.tokens.rest.now ≤ length l.fn.tokens.rest.now)
+abbrev pub invariant-loop-left : goal.invariant-loop-left
+invariant-loop-left o l = (reads g.sum l.fn.tokens.rest.now ≡ reads (g.more_sum l.left) l.tokens.rest.now) × (length l.tokens.rest.now ≤ length l.fn.tokens.rest.now)
 
-abbrev pub decreases-loop-tokens : goal.decreases-loop-tokens
-decreases-loop-tokens o l = length l.tokens.rest.now
+abbrev pub decreases-loop-left : goal.decreases-loop-left
+decreases-loop-left o l = length l.tokens.rest.now
