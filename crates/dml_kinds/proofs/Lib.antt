@@ -1,2 +1,4 @@
+pub mod CallerLemmas
+pub mod DimensionsOfTrees
 pub mod ExpressionAnswers
 mod Worked

@@ -2,6 +2,8 @@
 use Rattle.std.specs.Prelude.{ℕ, pos, ◌≡◌, true, List, [], ◌∷◌, Option, Some, None, Ok, codes, if◌then◌else◌}
 use Rattle.std.proofs.Common.{refl}
 use Rattle.aw_cell.specs.Names.{same_word}
+use Rattle.aw_cell.specs.declared.cell.Cell.{Cell}
+use Rattle.aw_cell.specs.declared.cell.Cell.TheVariants as cell
 use Rattle.aw_cell.specs.declared.cell.Kind.TheVariants as kind
 use Rattle.aw_cell.specs.declared.comparison.Order.{Order}
 use Rattle.aw_cell.specs.declared.comparison.Order.TheVariants as order
@@ -17,9 +19,15 @@ use Rattle.dml_kinds.specs.declared.meaning.Known.{Known}
 use Rattle.dml_kinds.specs.declared.meaning.Meaning.{Meaning}
 use Rattle.dml_kinds.specs.declared.meaning.Meaning.TheVariants.{Dimension, Variable, Formula, Program}
 use Rattle.dml_kinds.specs.declared.types.ValueType.TheVariants.{Na, Of}
+use Rattle.dml_kinds.specs.declared.tree.FixedValue.{FixedValue}
+use Rattle.dml_kinds.specs.declared.tree.Taken.{Taken}
+use Rattle.dml_kinds.specs.declared.tree.Tree.{Tree}
+use Rattle.dml_kinds.specs.declared.tree.Tree.TheVariants as tree
+use Rattle.dml_kinds.specs.declared.tree.Tree.TheViews.{outs-Literal, outs-Dimension, outs-Variable, outs-Formula, outs-Joined}
 use Rattle.dml_kinds.specs.Meanings.{Names}
 use Rattle.dml_kinds.specs.Types.{type_of}
 use Rattle.dml_kinds.specs.FreeDimensions.{free_dimensions}
+use Rattle.dml_kinds.specs.Trees.{tree_of}
 use Rattle.dml_kinds.specs.Checking.{refusal, measure_answer, formula_refusal}
 
 abbrev known_as : List ℕ → Meaning → Option Known
@@ -215,3 +223,30 @@ na_alone = simp (fold-roll-Expr) refl
 
 pub formula_of_na : formula_refusal names na ≡ Some Mismatch
 formula_of_na = simp (fold-roll-Expr) refl
+
+-- ---- trees
+
+abbrev literal : Cell → Tree
+literal c = tree.Literal c
+
+abbrev fixed : ℕ → FixedValue
+fixed d = record { dimension = d; value = codes "A" }
+
+abbrev taken_at : ℕ → List ℕ → List FixedValue → Taken
+taken_at number dimensions fixes = record { object = number; dimensions = dimensions; fixes = fixes }
+
+-- x(E 'A')
+pub name_at_a_value : tree_of names (named (codes "x") (fix (codes "E") ∷ [])) ≡ tree.Variable kind.Num (taken_at 3 (1 ∷ 0 ∷ []) (fixed 1 ∷ []))
+name_at_a_value = simp (fold-roll-Expr) refl
+
+-- v + 0.5
+pub integer_meets_number : tree_of names (joined joint.Add (object (codes "v")) half) ≡ tree.Joined joint.Add (Of kind.Num) (tree.AsNumber (tree.Variable kind.Int (taken_at 2 (0 ∷ []) []))) (literal (cell.Num (pos 5000)))
+integer_meets_number = simp (fold-roll-Expr, outs-Variable, outs-Literal) refl
+
+-- (NA) + 1
+pub na_meets_integer : tree_of names (joined joint.Add (grouped na) one) ≡ tree.Joined joint.Add (Of kind.Int) (literal cell.Na) (literal (cell.Int (pos 1)))
+na_meets_integer = simp (fold-roll-Expr, outs-Literal) refl
+
+-- IF d EQ 'A' THEN f ELSE NA
+pub choice_of_a_formula : tree_of names (choice (compared order.Eq (object (codes "d")) text) (object (codes "f")) na) ≡ tree.If (Of kind.Num) (tree.Joined (joint.Compare order.Eq) (Of kind.Text) (tree.Dimension 0) (literal (cell.Text (codes "A")))) (tree.Formula kind.Num (taken_at 6 (1 ∷ []) [])) (literal cell.Na)
+choice_of_a_formula = simp (fold-roll-Expr, outs-Dimension, outs-Literal, outs-Formula, outs-Joined) refl

@@ -3,6 +3,7 @@ pub mod FreeDimensions
 pub mod Meanings
 pub mod Names
 pub mod Signatures
+pub mod TreeDimensions
 pub mod Trees
 pub mod Types
 pub mod inside

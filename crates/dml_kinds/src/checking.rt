@@ -1,7 +1,9 @@
 ghost use Rattle.std.specs.Prelude.{◌≡◌, IfOk, is_some, None, []};
+ghost use Rattle.dml_kinds.specs.FreeDimensions.{first_appearances};
 ghost use Rattle.dml_kinds.specs.Meanings.{names_in};
 ghost use Rattle.dml_kinds.specs.Names as names;
 ghost use Rattle.dml_kinds.specs.Checking as spec;
+ghost use Rattle.dml_kinds.specs.TreeDimensions.{tree_dimensions};
 ghost use Rattle.dml_kinds.specs.Trees as trees;
 ghost use Rattle.dml_kinds.specs.inside.Parts.{part_answer, part_of, formula_part, formula_answer_with};
 
@@ -83,11 +85,24 @@ pub fn with_tree(
     })
 }
 
+/// What is answered of an expression.
+#[tactic(auto, using(crate::proofs::ExpressionAnswers::typed_expression, crate::proofs::ExpressionAnswers::untyped_expression))]
+fn expression_in(alloc: Global, scope: &Scope, expr: &Expr) -> Result<TypedExpr, TypeFault>
+    ensures { spec.IsAnswer result (spec.expression_answer (names_in scope.now.catalogue.now scope.now.known.now scope.now.locals.now) scope.now.locals.now expr.now) }
+{
+    match measured(alloc, scope, expr) {
+        Ok(measure) => match with_tree(alloc, scope, expr, &measure) {
+            Ok(typed) => Ok(typed),
+            Err(_) => Err(TypeFault::NoMemory),
+        },
+        Err(fault) => Err(fault),
+    }
+}
+
 /// Whether an expression is accepted where `catalogue` has these objects, whose texts mean what
 /// `known` tells of them, and the program has these locals, and what it is then. An object with a
 /// text of which nothing is told is unknown. Else the first refusal in the order of TypeFault, each
 /// for the first place from the left (docs/LANGUAGE.md, "Order of refusals").
-#[tactic(auto, using(crate::proofs::ExpressionAnswers::typed_expression, crate::proofs::ExpressionAnswers::untyped_expression))]
 pub fn check_expr(
     alloc: Global,
     expr: &Expr,
@@ -95,20 +110,15 @@ pub fn check_expr(
     known: &Signatures,
     locals: &Locals,
 ) -> Result<TypedExpr, TypeFault>
-    ensures { spec.IsAnswer result (spec.expression_answer (names_in catalogue.now known.now locals.now) locals.now expr.now) }
+    ensures answer { spec.IsAnswer result (spec.expression_answer (names_in catalogue.now known.now locals.now) locals.now expr.now) }
+    ensures dimensions { IfOk result (λ typed. typed.dimensions ≡ first_appearances (tree_dimensions typed.tree)) }
 {
     let scope = Scope {
         catalogue,
         known,
         locals,
     };
-    match measured(alloc, &scope, expr) {
-        Ok(measure) => match with_tree(alloc, &scope, expr, &measure) {
-            Ok(typed) => Ok(typed),
-            Err(_) => Err(TypeFault::NoMemory),
-        },
-        Err(fault) => Err(fault),
-    }
+    expression_in(alloc, &scope, expr)
 }
 
 /// The type of a formula's expression, which isn't that of `NA` alone.
@@ -169,7 +179,8 @@ pub fn check_formula(
     catalogue: &Catalogue,
     known: &Signatures,
 ) -> Result<TypedExpr, TypeFault>
-    ensures { spec.IsAnswer result (spec.formula_answer (names_in catalogue.now known.now []) expr.now) }
+    ensures answer { spec.IsAnswer result (spec.formula_answer (names_in catalogue.now known.now []) expr.now) }
+    ensures dimensions { IfOk result (λ typed. typed.dimensions ≡ first_appearances (tree_dimensions typed.tree)) }
 {
     let locals = List::new(alloc);
     let scope = Scope {

@@ -5,6 +5,7 @@ mod checking;
 mod dimensions;
 mod fault;
 mod gathering;
+mod held;
 mod meaning;
 mod parts;
 mod refusing;

@@ -5,6 +5,7 @@ ghost use Rattle.dml_kinds.specs.Meanings.{names_in};
 ghost use Rattle.dml_kinds.specs.Trees as spec;
 
 use crate::dimensions::one_dimension;
+use crate::held::with;
 use crate::meaning::Meaning;
 use crate::scope::Scope;
 use crate::tree::{FixedValue, Taken, Tree};
@@ -88,12 +89,29 @@ fn fitted(alloc: Global, wanted: ValueType, tree: Tree) -> Result<Tree, AllocErr
     }
 }
 
+fn fitted_box(alloc: Global, wanted: ValueType, tree: Tree) -> Result<Boxed<Tree>, AllocError>
+    ensures { IfOk result (λ boxed. boxed ≡ spec.fitted wanted tree) }
+{
+    Ok(Boxed::new(alloc, fitted(alloc, wanted, tree)?)?)
+}
+
+fn fitted_boxes(
+    alloc: Global,
+    wanted: ValueType,
+    left: Tree,
+    right: Tree,
+) -> Result<(Boxed<Tree>, Boxed<Tree>), AllocError>
+    ensures { IfOk result (λ boxes. (boxes.0 ≡ spec.fitted wanted left) × (boxes.1 ≡ spec.fitted wanted right)) }
+{
+    let (right, left) = with(right, fitted_box(alloc, wanted, left))?;
+    with(left, fitted_box(alloc, wanted, right))
+}
+
 fn joined(alloc: Global, joint: Joint, left: Tree, right: Tree) -> Result<Tree, AllocError>
     ensures { IfOk result (λ tree. tree ≡ spec.joined joint (spec.meeting joint (spec.tree_type left) (spec.tree_type right)) left right) }
 {
     let met = meeting(joint, left.kind(), right.kind());
-    let left = Boxed::new(alloc, fitted(alloc, met, left)?)?;
-    let right = Boxed::new(alloc, fitted(alloc, met, right)?)?;
+    let (left, right) = fitted_boxes(alloc, met, left, right)?;
     Ok(Tree::Joined(joint, met, left, right))
 }
 
@@ -101,9 +119,9 @@ fn chosen(alloc: Global, condition: Tree, first: Tree, second: Tree) -> Result<T
     ensures { IfOk result (λ tree. tree ≡ spec.chosen (spec.common (spec.tree_type first) (spec.tree_type second)) condition first second) }
 {
     let kind = common(first.kind(), second.kind());
-    let condition = Boxed::new(alloc, condition)?;
-    let first = Boxed::new(alloc, fitted(alloc, kind, first)?)?;
-    let second = Boxed::new(alloc, fitted(alloc, kind, second)?)?;
+    let (condition, boxes) = with(condition, fitted_boxes(alloc, kind, first, second))?;
+    let (boxes, condition) = with(boxes, Boxed::new(alloc, condition))?;
+    let (first, second) = boxes;
     Ok(Tree::If(kind, condition, first, second))
 }
 
@@ -189,13 +207,13 @@ pub(crate) fn tree_of(alloc: Global, scope: &Scope, expr: &Expr) -> Result<Tree,
         Expr::Abs(operand) => abs(alloc, tree_of(alloc, scope, operand.get())?),
         Expr::Joined(joint, left, right) => {
             let left = tree_of(alloc, scope, left.get())?;
-            let right = tree_of(alloc, scope, right.get())?;
+            let (left, right) = with(left, tree_of(alloc, scope, right.get()))?;
             joined(alloc, *joint, left, right)
         }
         Expr::If(condition, first, second) => {
             let condition = tree_of(alloc, scope, condition.get())?;
-            let first = tree_of(alloc, scope, first.get())?;
-            let second = tree_of(alloc, scope, second.get())?;
+            let both = with(condition, tree_of(alloc, scope, first.get()))?;
+            let ((condition, first), second) = with(both, tree_of(alloc, scope, second.get()))?;
             chosen(alloc, condition, first, second)
         }
     }
