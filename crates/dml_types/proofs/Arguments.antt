@@ -1,5 +1,5 @@
 -- Arguments that are missing.
-use Rattle.std.specs.Prelude.{ℕ, ◌≡◌, ◌<◌, false, List, [], ◌∷◌, length}
+use Rattle.std.specs.Prelude.{◌≡◌, ◌<◌, false, List, [], ◌∷◌, length}
 use Rattle.std.proofs.Common.{refl, arith}
 use Rattle.aw_cell.specs.declared.cell.Kind.{Kind}
 use Rattle.dml_kinds.specs.declared.types.ValueType.{ValueType}

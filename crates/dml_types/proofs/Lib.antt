@@ -1,3 +1,4 @@
 pub mod Arguments
+pub mod DimensionsOfStatements
 pub mod StatementAnswers
 mod Worked

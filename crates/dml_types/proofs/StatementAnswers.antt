@@ -1,10 +1,11 @@
 -- What is answered of a statement by what was found of its expressions.
-use Rattle.std.specs.Prelude.{ℕ, ◌≡◌, ◌+◌, ◌≤◌, ◌<◌, ◌&&◌, Bool, true, false, nat_le, List, [], ◌∷◌, ◌++◌, map, length, Option, Some, None, Result, Ok, Err, is_some, unwrap_or, if◌then◌else◌}
-use Rattle.std.specs.List.{list_all, filter_map, flat_map, cons_option}
+use Rattle.std.specs.Prelude.{ℕ, ◌≡◌, ◌+◌, ◌≤◌, ◌<◌, ◌&&◌, Bool, true, false, nat_le, List, [], ◌∷◌, ◌++◌, map, length, Option, Some, None, Err, is_some, unwrap_or, if◌then◌else◌}
+use Rattle.std.specs.List.{list_all, filter_map, cons_option}
 use Rattle.std.specs.Option.{option_or}
-use Rattle.std.proofs.Common.{◌∙◌, ap, sym, refl, arith, rules, inl, inr}
+use Rattle.std.proofs.Common.{◌∙◌, ap, sym, refl, arith, inl, inr, append-nil}
 use Rattle.std.proofs.lemmas.Bool.{cases_lt, and_parts, lt-leb, leb-true, true≢false, false≢true}
 use Rattle.std.proofs.lemmas.List.Folds.{list_all-map}
+use Rattle.aw_cell.specs.declared.cell.Kind.{Kind}
 use Rattle.dml_tree.specs.Weight.{weight_of_all}
 use Rattle.dml_tree.specs.declared.expr.Expr.{Expr}
 use Rattle.dml_tree.specs.declared.statement.Statement.{Statement}
@@ -13,21 +14,22 @@ use Rattle.dml_kinds.specs.declared.fault.TypeFault.TheVariants.{Mismatch, Dimen
 use Rattle.dml_kinds.specs.declared.types.ValueType.{ValueType}
 use Rattle.dml_kinds.specs.declared.types.ValueType.TheVariants.{Na}
 use Rattle.dml_kinds.specs.declared.checking.Measure.{Measure}
-use Rattle.dml_kinds.specs.declared.parts.Part.{Part}
+use Rattle.dml_kinds.specs.declared.checking.TypedExpr.{TypedExpr}
 use Rattle.dml_kinds.specs.declared.meaning.Use.{Use}
 use Rattle.dml_kinds.specs.Signatures.{Told}
 use Rattle.dml_kinds.specs.Meanings.{Names, weight_named}
 use Rattle.dml_kinds.specs.Names.{targets, targets_of_all, uses, groups, names_refusal, named_object}
 use Rattle.dml_kinds.specs.Types.{type_of}
-use Rattle.dml_kinds.specs.FreeDimensions.{first_appearances, target_dimensions, fixes_fit, free_dimensions, dimensions_fit as expression_fits}
-use Rattle.dml_kinds.specs.Checking.{first_refusal, answer, unless, expression_weight, measure}
+use Rattle.dml_kinds.specs.FreeDimensions.{fixes_fit, free_dimensions, dimensions_fit as expression_fits}
+use Rattle.dml_kinds.specs.Checking.{first_refusal, answer, unless, expression_weight, kinds_of, typed, typed_as}
+use Rattle.dml_kinds.specs.Trees.{tree_of}
 use Rattle.dml_kinds.specs.inside.Capped.{capped}
-use Rattle.dml_kinds.specs.inside.Parts.{part_of, up_to_six}
+use Rattle.dml_kinds.specs.inside.Parts.{up_to_six}
 use Rattle.dml_types.specs.declared.checking.Typed.{Typed}
 use Rattle.dml_types.specs.Statements.{own_uses, own_group, expressions, own_types_fit, own_dimensions_fit}
 use Rattle.dml_types.specs.Checking.{typed_statement, are_typed, refusal_with, statement_answer, statement_dimensions_fit, types_fit as all_types_fit}
 use Rattle.dml_types.specs.declared.measuring.Found.{Found}
-use Rattle.dml_types.specs.inside.Parts.{total_weight, typed_part, typed_parts, found_of, types_fit, dimensions_fit, parts_refusal, parts_answer}
+use Rattle.dml_types.specs.inside.Parts.{total_weight, typed_part, with_trees, typed_parts, found_of, types_fit, dimensions_fit, parts_refusal, parts_answer}
 
 no_truth : {X : Type 0} → false ≡ true → X
 no_truth e = absurd (false≢true e)
@@ -124,15 +126,15 @@ module _ (names : Names) where
   total_same [] = refl
   total_same (e ∷ es) = capped_sum (expression_weight names e) _ _ (total_same es)
 
-  typed_all : (es : List Expr) → weight_of_all (weight_named names) es ≤ 4096 → list_all (expression_fits names) es ≡ true → map (λ (part : Found). part.expression) (map (found_of names) es) ≡ map (measure names) es
-  typed_all [] small fit = refl
-  typed_all (e ∷ es) small fit =
+  typed_all : (locals : List (List ℕ × Kind)) (es : List Expr) → weight_of_all (weight_named names) es ≤ 4096 → list_all (expression_fits names) es ≡ true → with_trees names locals es (map (found_of names) es) ≡ map (typed names locals) es
+  typed_all locals [] small fit = refl
+  typed_all locals (e ∷ es) small fit =
       let both = and_parts (expression_fits names e) (list_all (expression_fits names) es) fit in
-      ap (λ first. first ∷ map (λ (part : Found). part.expression) (map (found_of names) es))
+      ap (λ (first : Measure). typed_as first (tree_of names e) (kinds_of locals) ∷ with_trees names locals es (map (found_of names) es))
       (typed_one (type_of names e) _ (free_dimensions names e) _ (expression_weight names e)
       (free_one (list_all (fixes_fit names) (targets e)) (free_dimensions names e) both.0)
       (light (expression_weight names e) (omega (arith, small))))
-      ∙ ap (λ rest. measure names e ∷ rest) (typed_all es (omega (arith, small)) both.1)
+      ∙ ap (λ rest. typed names locals e ∷ rest) (typed_all locals es (omega (arith, small)) both.1)
 
   module _ (known : Told) (s : Statement) where
     types_same : (es : List Expr) → types_fit names known s (map (found_of names) es) ≡ all_types_fit names known s es
@@ -153,40 +155,47 @@ module _ (names : Names) where
         (ap (λ w. nat_le w 4096) (total_same es) ∙ light_same (weight_of_all (weight_named names) es))
         ∙ ap (λ refused. first_refusal refused (all_types_fit names known s es) (statement_dimensions_fit names known s es) (weight_of_all (weight_named names) es)) (sym none)
 
-    abbrev typed_as : List Measure → Typed
-    typed_as all = record { objects = filter_map (λ (needed : Use). named_object names needed.name) (own_uses s); expressions = all }
+    abbrev typed_with : List TypedExpr → Typed
+    typed_with all = record { objects = filter_map (λ (needed : Use). named_object names needed.name) (own_uses s); expressions = all }
 
     abbrev refuses : List Expr → Option TypeFault
     refuses es = names_refusal names (own_uses s ++ uses (targets_of_all es)) (own_group s ∷ groups (targets_of_all es))
-
-    -- a name is refused
-    pub refused_statement : (es : List Expr) (fault : TypeFault) → es ≡ expressions names s → names_refusal names (own_uses s ++ uses (targets_of_all es)) (own_group s ∷ groups (targets_of_all es)) ≡ Some fault → statement_answer names known s ≡ Err fault
-    refused_statement es fault those refused =
-        ap (λ all. answer (refusal_with names known s all) (typed_statement names s)) (sym those)
-        ∙ ap (λ r. answer (first_refusal r (all_types_fit names known s es) (statement_dimensions_fit names known s es) (weight_of_all (weight_named names) es)) (typed_statement names s)) refused
-
-    -- what was found of an accepted statement
-    exact : (es : List Expr) → first_refusal None (all_types_fit names known s es) (statement_dimensions_fit names known s es) (weight_of_all (weight_named names) es) ≡ None → map (λ (part : Found). part.expression) (map (found_of names) es) ≡ map (measure names) es
-    exact es none =
-        let both = accepted (all_types_fit names known s es) (statement_dimensions_fit names known s es) (weight_of_all (weight_named names) es) none in
-        typed_all es (is_light _ both.1) (and_parts (list_all (expression_fits names) es) _ both.0).0
-
-    refused_none : (es : List Expr) → refuses es ≡ None → first_refusal None (all_types_fit names known s es) (statement_dimensions_fit names known s es) (weight_of_all (weight_named names) es) ≡ refusal_with names known s es
-    refused_none es none =
-        ap (λ r. first_refusal r (all_types_fit names known s es) (statement_dimensions_fit names known s es) (weight_of_all (weight_named names) es)) (sym none)
 
     -- one refusal has one answer, whatever it carries where it refuses
     same_answer : (refusal : Option TypeFault) (one other : Typed) → (refusal ≡ None → one ≡ other) → answer refusal one ≡ answer refusal other
     same_answer (Some fault) one other same = refl
     same_answer None one other same = ap (λ value. answer None value) (same refl)
 
-    settled_with : (es : List Expr) → refuses es ≡ None → answer (parts_refusal names known s (map (found_of names) es)) (typed_parts names (own_uses s) (map (found_of names) es)) ≡ answer (refusal_with names known s es) (record { objects = filter_map (λ (needed : Use). named_object names needed.name) (own_uses s); expressions = map (measure names) es })
-    settled_with es none =
-        ap (λ r. answer r (typed_parts names (own_uses s) (map (found_of names) es))) (refusal_same es none)
-        ∙ same_answer (refusal_with names known s es) _ _ (λ not. ap (λ (all : List Measure). typed_as all) (exact es (refused_none es none ∙ not)))
+    refused_none : (es : List Expr) → refuses es ≡ None → first_refusal None (all_types_fit names known s es) (statement_dimensions_fit names known s es) (weight_of_all (weight_named names) es) ≡ refusal_with names known s es
+    refused_none es none =
+        ap (λ r. first_refusal r (all_types_fit names known s es) (statement_dimensions_fit names known s es) (weight_of_all (weight_named names) es)) (sym none)
 
-    -- no name is refused
-    pub settled_statement : (es : List Expr) → es ≡ expressions names s → names_refusal names (own_uses s ++ uses (targets_of_all es)) (own_group s ∷ groups (targets_of_all es)) ≡ None → parts_answer names known s (own_uses s) (map (found_of names) es) ≡ statement_answer names known s
-    settled_statement es those none =
-        settled_with es none
-        ∙ ap (λ all. answer (refusal_with names known s all) (typed_as (map (measure names) all))) those
+    module _ (locals : List (List ℕ × Kind)) where
+      -- a name is refused
+      pub refused_statement : (es : List Expr) (fault : TypeFault) → es ≡ expressions names s → names_refusal names (own_uses s ++ uses (targets_of_all es)) (own_group s ∷ groups (targets_of_all es)) ≡ Some fault → statement_answer names known locals s ≡ Err fault
+      refused_statement es fault those refused =
+          ap (λ all. answer (refusal_with names known s all) (typed_statement names locals s)) (sym those)
+          ∙ ap (λ r. answer (first_refusal r (all_types_fit names known s es) (statement_dimensions_fit names known s es) (weight_of_all (weight_named names) es)) (typed_statement names locals s)) refused
+
+      -- what was found of an accepted statement
+      exact : (es : List Expr) → first_refusal None (all_types_fit names known s es) (statement_dimensions_fit names known s es) (weight_of_all (weight_named names) es) ≡ None → with_trees names locals es (map (found_of names) es) ≡ map (typed names locals) es
+      exact es none =
+          let both = accepted (all_types_fit names known s es) (statement_dimensions_fit names known s es) (weight_of_all (weight_named names) es) none in
+          typed_all locals es (is_light _ both.1) (and_parts (list_all (expression_fits names) es) _ both.0).0
+
+      settled_with : (es : List Expr) → refuses es ≡ None → answer (parts_refusal names known s (map (found_of names) es)) (typed_parts names locals (own_uses s) es (map (found_of names) es)) ≡ answer (refusal_with names known s es) (typed_with (map (typed names locals) es))
+      settled_with es none =
+          ap (λ r. answer r (typed_parts names locals (own_uses s) es (map (found_of names) es))) (refusal_same es none)
+          ∙ same_answer (refusal_with names known s es) _ _ (λ not. ap (λ (all : List TypedExpr). typed_with all) (exact es (refused_none es none ∙ not)))
+
+      -- no name is refused
+      pub settled_statement : (es : List Expr) → es ≡ expressions names s → names_refusal names (own_uses s ++ uses (targets_of_all es)) (own_group s ∷ groups (targets_of_all es)) ≡ None → parts_answer names known locals s (own_uses s) es (map (found_of names) es) ≡ statement_answer names known locals s
+      settled_statement es those none =
+          settled_with es none
+          ∙ ap (λ all. answer (refusal_with names known s all) (typed_with (map (typed names locals) all))) those
+
+-- expressions of which nothing more was found
+pub none_behind : (names : Names) (locals : List (List ℕ × Kind)) (typed : List TypedExpr) (es : List Expr) (parts : List Found) (whole : List TypedExpr) → length parts < 1 → typed ++ with_trees names locals es parts ≡ whole → typed ≡ whole
+none_behind names locals typed [] parts whole few all = sym (append-nil typed) ∙ all
+none_behind names locals typed (e ∷ es) [] whole few all = sym (append-nil typed) ∙ all
+none_behind names locals typed (e ∷ es) (part ∷ parts) whole few all = absurd (omega (arith, few))

@@ -23,6 +23,7 @@ use Rattle.dml_kinds.specs.declared.meaning.Known.{Known}
 use Rattle.dml_kinds.specs.declared.meaning.Meaning.{Meaning}
 use Rattle.dml_kinds.specs.declared.meaning.Meaning.TheVariants.{Local, Dimension, Relation, Valueset, Variable, Formula, Program, Aggregation, Allocation}
 use Rattle.dml_kinds.specs.declared.signature.Signature.TheVariants as signature
+use Rattle.dml_kinds.specs.declared.tree.Tree.TheVariants as tree
 use Rattle.dml_kinds.specs.declared.types.ValueType.TheVariants.{Of}
 use Rattle.dml_kinds.specs.Signatures.{Told}
 use Rattle.dml_kinds.specs.Meanings.{Names}
@@ -86,8 +87,12 @@ limit name what = statement.Limit name limiting.To what
 -- ---- assignments
 
 -- w = v, what is answered of it
-pub number_from_integer : statement_answer names told (statement.Assign (to (codes "W")) (named (codes "v"))) ≡ Ok (record { objects = (codes "w", 9) ∷ []; expressions = (record { kind = Of kind.Int; dimensions = 0 ∷ []; weight = 1 }) ∷ [] })
+pub number_from_integer : statement_answer names told [] (statement.Assign (to (codes "W")) (named (codes "v"))) ≡ Ok (record { objects = (codes "w", 9) ∷ []; expressions = (record { kind = Of kind.Int; dimensions = 0 ∷ []; weight = 1; tree = tree.Variable kind.Int (record { object = 2; dimensions = 0 ∷ []; fixes = [] }); locals = [] }) ∷ [] })
 number_from_integer = simp (fold-roll-Expr) refl
+
+-- SHOW k, where k is the one local
+pub local_by_number : statement_answer names told ((codes "k", kind.Int) ∷ []) (statement.Show (named (codes "k"))) ≡ Ok (record { objects = []; expressions = (record { kind = Of kind.Int; dimensions = []; weight = 1; tree = tree.Local 0 kind.Int; locals = kind.Int ∷ [] }) ∷ [] })
+local_by_number = simp (fold-roll-Expr) refl
 
 -- r = NA and r = n
 pub na_is_stored : refused (statement.Assign (to (codes "r")) na) ≡ None

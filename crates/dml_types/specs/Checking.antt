@@ -1,6 +1,7 @@
 -- Whether a statement is accepted, and what refuses it first.
 use Rattle.std.specs.Prelude.{ℕ, ◌&&◌, Bool, List, ◌∷◌, ◌++◌, map, Option, Result, is_some}
 use Rattle.std.specs.List.{list_all, filter_map}
+use Rattle.aw_cell.specs.declared.cell.Kind.{Kind}
 use Rattle.dml_tree.specs.Weight.{weight_of_all}
 use Rattle.dml_tree.specs.declared.expr.Expr.{Expr}
 use Rattle.dml_tree.specs.declared.statement.Statement.{Statement}
@@ -11,17 +12,17 @@ use Rattle.dml_kinds.specs.Meanings.{Names, weight_named}
 use Rattle.dml_kinds.specs.Names.{targets_of_all, uses, groups, names_refusal, named_object}
 use Rattle.dml_kinds.specs.Types.{type_of}
 use Rattle.dml_kinds.specs.FreeDimensions.{free_dimensions, dimensions_fit}
-use Rattle.dml_kinds.specs.Checking.{first_refusal, answer, measure}
+use Rattle.dml_kinds.specs.Checking.{first_refusal, answer, typed}
 use Rattle.dml_types.specs.declared.checking.Typed.{Typed}
 use Rattle.dml_types.specs.Statements.{own_uses, own_group, expressions, own_types_fit, own_dimensions_fit}
 
 module _ (names : Names) where
-  -- the objects that its names outside of expressions mean, and its expressions, each in the order written
-  abbrev pub typed_statement : Statement → Typed
-  typed_statement s =
+  -- with these locals: the objects that its names outside of expressions mean, and its expressions, each in the order written
+  abbrev pub typed_statement : List (List ℕ × Kind) → Statement → Typed
+  typed_statement locals s =
       record {
         objects = filter_map (λ (needed : Use). named_object names needed.name) (own_uses s);
-        expressions = map (measure names) (expressions names s);
+        expressions = map (typed names locals) (expressions names s);
       }
 
   abbrev pub are_typed : List Expr → Bool
@@ -46,5 +47,6 @@ module _ (names : Names) where
     abbrev pub statement_refusal : Statement → Option TypeFault
     statement_refusal s = refusal_with s (expressions names s)
 
-    abbrev pub statement_answer : Statement → Result Typed TypeFault
-    statement_answer s = answer (statement_refusal s) (typed_statement s)
+    -- where the program has these locals
+    abbrev pub statement_answer : List (List ℕ × Kind) → Statement → Result Typed TypeFault
+    statement_answer locals s = answer (statement_refusal s) (typed_statement locals s)

@@ -21,7 +21,6 @@ use Rattle.dml_kinds.specs.declared.meaning.Meaning.TheVariants.{Dimension, Rela
 use Rattle.dml_kinds.specs.declared.meaning.Role.TheVariants as role
 use Rattle.dml_kinds.specs.declared.meaning.Use.{Use}
 use Rattle.dml_kinds.specs.declared.types.ValueType.{ValueType}
-use Rattle.dml_kinds.specs.declared.types.ValueType.TheVariants.{Na, Of}
 use Rattle.dml_kinds.specs.Signatures.{Told, signature_of}
 use Rattle.dml_kinds.specs.Meanings.{Names, meaning_named, kind_named, dimensions_named}
 use Rattle.dml_kinds.specs.Names.{use_as, uses_of, fixed_names}

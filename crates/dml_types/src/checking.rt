@@ -1,8 +1,10 @@
-ghost use Rattle.std.specs.Prelude.{◌≡◌, ◌∷◌, ◌++◌, map, Ok, IfOk};
+ghost use Rattle.std.specs.Prelude.{◌≡◌, ◌∷◌, ◌++◌, map, Ok, IfOk, All};
 ghost use Rattle.std.specs.List.{filter_map};
 ghost use Rattle.dml_kinds.specs.Meanings.{names_in};
 ghost use Rattle.dml_kinds.specs.Names as names;
 ghost use Rattle.dml_kinds.specs.Checking.{IsAnswer};
+ghost use Rattle.dml_kinds.specs.FreeDimensions.{first_appearances};
+ghost use Rattle.dml_kinds.specs.TreeDimensions.{tree_dimensions};
 ghost use Rattle.dml_types.specs.Statements as statements;
 ghost use Rattle.dml_types.specs.inside.Parts as parts;
 ghost use Rattle.dml_types.specs.Checking as spec;
@@ -14,7 +16,7 @@ use aw_cell::Text;
 use aw_lists::List;
 use aw_schema::Catalogue;
 use dml_kinds::{
-    Locals, Measure, Scope, Signatures, TypeFault, Use, push_targets, push_value_uses,
+    Locals, Scope, Signatures, TypeFault, TypedExpr, Use, push_targets, push_value_uses,
 };
 use dml_tree::{Expr, Statement, Target};
 use std::alloc::{AllocError, Global};
@@ -26,14 +28,27 @@ pub struct Typed {
     /// defined, and the object's number. A local is none.
     pub objects: List<(Text, u16)>,
     /// Its expressions in the order written. A valueset that LIMIT selects is none.
-    pub expressions: List<Measure>,
+    pub expressions: List<TypedExpr>,
+}
+
+/// What is answered of a statement.
+#[tactic(auto, using(crate::proofs::StatementAnswers::settled_statement, crate::proofs::StatementAnswers::refused_statement))]
+fn answered(alloc: Global, scope: &Scope, statement: &Statement) -> Result<Typed, TypeFault>
+    ensures { IsAnswer result (spec.statement_answer (names_in scope.now.catalogue.now scope.now.known.now scope.now.locals.now) scope.now.known.now scope.now.locals.now statement.now) }
+{
+    let exprs = expressions(alloc, scope, statement)?;
+    let uses = own_uses(alloc, statement)?;
+    match refused_names(alloc, scope, statement, &uses, &exprs) {
+        Ok(Some(fault)) => Err(fault),
+        Ok(None) => found(alloc, scope, statement, &uses, &exprs),
+        Err(_) => Err(TypeFault::NoMemory),
+    }
 }
 
 /// Whether a statement is accepted where `catalogue` has these objects, whose texts mean what
 /// `known` tells of them, and the program has these locals, and what it is then. An object with a
 /// text of which nothing is told is unknown. Else the first refusal in the order of TypeFault, each
 /// for the first place from the left (docs/LANGUAGE.md, "Order of refusals").
-#[tactic(auto, using(crate::proofs::StatementAnswers::settled_statement, crate::proofs::StatementAnswers::refused_statement))]
 pub fn check(
     alloc: Global,
     statement: &Statement,
@@ -41,20 +56,15 @@ pub fn check(
     known: &Signatures,
     locals: &Locals,
 ) -> Result<Typed, TypeFault>
-    ensures { IsAnswer result (spec.statement_answer (names_in catalogue.now known.now locals.now) known.now statement.now) }
+    ensures answer { IsAnswer result (spec.statement_answer (names_in catalogue.now known.now locals.now) known.now locals.now statement.now) }
+    ensures dimensions { IfOk result (λ typed. All (λ one. one.dimensions ≡ first_appearances (tree_dimensions one.tree)) typed.expressions) }
 {
     let scope = Scope {
         catalogue,
         known,
         locals,
     };
-    let exprs = expressions(alloc, &scope, statement)?;
-    let uses = own_uses(alloc, statement)?;
-    match refused_names(alloc, &scope, statement, &uses, &exprs) {
-        Ok(Some(fault)) => Err(fault),
-        Ok(None) => found(alloc, &scope, statement, &uses, &exprs),
-        Err(_) => Err(TypeFault::NoMemory),
-    }
+    answered(alloc, &scope, statement)
 }
 
 /// What is answered of a statement with these names outside of expressions, and these expressions,
@@ -66,37 +76,44 @@ fn found(
     own: &[Use],
     exprs: &[&Expr],
 ) -> Result<Typed, TypeFault>
-    ensures { IsAnswer result (parts.parts_answer (names_in scope.now.catalogue.now scope.now.known.now scope.now.locals.now) scope.now.known.now statement.now own.now (map (parts.found_of (names_in scope.now.catalogue.now scope.now.known.now scope.now.locals.now)) (map (λ e. e.now) exprs.now))) }
+    ensures { IsAnswer result (parts.parts_answer (names_in scope.now.catalogue.now scope.now.known.now scope.now.locals.now) scope.now.known.now scope.now.locals.now statement.now own.now (map (λ e. e.now) exprs.now) (map (parts.found_of (names_in scope.now.catalogue.now scope.now.known.now scope.now.locals.now)) (map (λ e. e.now) exprs.now))) }
 {
     match parts_of(alloc, scope, exprs) {
-        Ok(parts) => settled(alloc, scope, statement, own, parts.as_slice()),
+        Ok(parts) => settled(alloc, scope, statement, own, exprs, parts.as_slice()),
         Err(_) => Err(TypeFault::NoMemory),
     }
 }
 
-/// What is answered by what was found of its expressions.
+/// What is answered by what was found of these expressions of a statement.
 fn settled(
     alloc: Global,
     scope: &Scope,
     statement: &Statement,
     own: &[Use],
+    exprs: &[&Expr],
     all: &[Found],
 ) -> Result<Typed, TypeFault>
-    ensures { IsAnswer result (parts.parts_answer (names_in scope.now.catalogue.now scope.now.known.now scope.now.locals.now) scope.now.known.now statement.now own.now all.now) }
+    ensures { IsAnswer result (parts.parts_answer (names_in scope.now.catalogue.now scope.now.known.now scope.now.locals.now) scope.now.known.now scope.now.locals.now statement.now own.now (map (λ e. e.now) exprs.now) all.now) }
 {
     match parts_refusal(alloc, scope, statement, all) {
         Ok(Some(fault)) => Err(fault),
-        Ok(None) => accepted(alloc, scope, own, all),
+        Ok(None) => accepted(alloc, scope, own, exprs, all),
         Err(_) => Err(TypeFault::NoMemory),
     }
 }
 
 /// What an accepted statement is.
-fn accepted(alloc: Global, scope: &Scope, own: &[Use], all: &[Found]) -> Result<Typed, TypeFault>
-    ensures { IsAnswer result (Ok (parts.typed_parts (names_in scope.now.catalogue.now scope.now.known.now scope.now.locals.now) own.now all.now)) }
+fn accepted(
+    alloc: Global,
+    scope: &Scope,
+    own: &[Use],
+    exprs: &[&Expr],
+    all: &[Found],
+) -> Result<Typed, TypeFault>
+    ensures { IsAnswer result (Ok (parts.typed_parts (names_in scope.now.catalogue.now scope.now.known.now scope.now.locals.now) scope.now.locals.now own.now (map (λ e. e.now) exprs.now) all.now)) }
 {
     let objects = objects(alloc, scope, own)?;
-    match typed_list(alloc, all) {
+    match typed_list(alloc, scope, exprs, all) {
         Ok(expressions) => Ok(Typed {
             objects,
             expressions,

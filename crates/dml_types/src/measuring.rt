@@ -6,7 +6,7 @@ ghost use Rattle.dml_types.specs.inside.Parts as spec;
 
 use crate::fitting::{own_dimensions_fit, own_types_fit};
 use aw_lists::{Coord, List};
-use dml_kinds::{Measure, Part, Scope, TypeFault, ValueType, part_of};
+use dml_kinds::{Measure, Part, Scope, TypeFault, TypedExpr, ValueType, part_of, with_tree};
 use dml_tree::{Expr, Statement};
 use std::alloc::{AllocError, Global};
 
@@ -169,16 +169,22 @@ pub(crate) fn parts_refusal(
     Ok(None)
 }
 
-fn typed_parts(alloc: Global, parts: &[Found]) -> Result<Vec<Measure>, AllocError>
-    ensures { IfOk result (λ all. all.items ≡ map (λ part. part.expression) parts.now) }
+/// The expressions of an accepted statement, of which this was found.
+pub(crate) fn typed_list(
+    alloc: Global,
+    scope: &Scope,
+    exprs: &[&Expr],
+    mut parts: &[Found],
+) -> Result<List<TypedExpr>, AllocError>
+    ensures { IfOk result (λ all. all ≡ spec.with_trees (names_in scope.now.catalogue.now scope.now.known.now scope.now.locals.now) scope.now.locals.now (map (λ e. e.now) exprs.now) parts.entry.now) }
 {
-    parts.iter().map(|part| part.expression).collect(alloc)
-}
-
-/// The expressions of an accepted statement.
-pub(crate) fn typed_list(alloc: Global, parts: &[Found]) -> Result<List<Measure>, AllocError>
-    ensures { IfOk result (λ all. all ≡ map (λ part. part.expression) parts.now) }
-{
-    let all = typed_parts(alloc, parts)?;
-    Ok(List::from_vec(all))
+    let mut typed = List::new(alloc);
+    for expr in exprs {
+        let [part, more @ ..] = parts else {
+            return Ok(typed);
+        };
+        typed.push(with_tree(alloc, scope, expr, &part.expression)?)?;
+        parts = more;
+    }
+    Ok(typed)
 }

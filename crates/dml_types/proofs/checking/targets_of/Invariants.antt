@@ -1,4 +1,4 @@
-use Rattle.std.proofs.Common.{◌≡◌, ◌++◌, ◌+◌, [], map, drop}
+use Rattle.std.proofs.Common.{◌≡◌, ◌++◌, map, drop}
 use Rattle.dml_kinds.specs.Names.{targets_of_all}
 use Rattle.dml_types.proofs.checking.targets_of.Given as goal
 

@@ -1,4 +1,4 @@
-use Rattle.std.proofs.Common.{◌≡◌, ◌++◌, ◌+◌, [], map, drop}
+use Rattle.std.proofs.Common.{◌≡◌, ◌++◌, map, drop}
 use Rattle.dml_types.proofs.expressions.each.Given as goal
 
 abbrev pub invariant-loop-expr : goal.invariant-loop-expr

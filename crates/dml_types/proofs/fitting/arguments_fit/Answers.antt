@@ -1,4 +1,4 @@
-use Rattle.std.proofs.Common.{◌≡◌, ◌<◌, ◌∙◌, sym, length, drop, arith, length-drop}
+use Rattle.std.proofs.Common.{◌<◌, ◌∙◌, sym, length, drop, arith, length-drop}
 use Rattle.aw_cell.specs.declared.cell.Kind.{Kind}
 use Rattle.dml_types.proofs.Arguments.{none_left}
 use Rattle.dml_types.proofs.fitting.arguments_fit.Goals as goal

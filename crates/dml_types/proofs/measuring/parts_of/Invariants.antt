@@ -1,4 +1,4 @@
-use Rattle.std.proofs.Common.{◌≡◌, ◌++◌, ◌+◌, [], map, drop}
+use Rattle.std.proofs.Common.{◌≡◌, ◌++◌, map, drop}
 use Rattle.dml_kinds.specs.Meanings.{names_in}
 use Rattle.dml_types.specs.inside.Parts.{found_of}
 use Rattle.dml_types.proofs.measuring.parts_of.Given as goal
