@@ -1,10 +1,10 @@
 -- The code of a formula is found.
-use Rattle.std.proofs.Common.{◌≡◌, ◌∙◌, ℕ, Bool as Truth, true, false, cond, eqb, List, [], ◌∷◌, Option, Some, None, refl, sym, ap, subst}
+use Rattle.std.proofs.Common.{◌≡◌, ℕ, Bool as Truth, true, false, cond, eqb, List, [], ◌∷◌, Some, None, refl, subst}
 use Rattle.std.specs.List.{find}
 use Rattle.dml_compile.specs.declared.formulas.Formula.{Formula}
 use Rattle.dml_compile.specs.FormulasView.{formula_tree}
-use Rattle.dml_compile.specs.inside.Emitted.{formula_code}
-use Rattle.dml_compile.specs.inside.Library.{trees_of, tree_code, HasCode, AreCompiled}
+use Rattle.dml_compile.specs.inside.Emitted.{formula_code, tree_code}
+use Rattle.dml_compile.specs.inside.Library.{trees_of, HasCode, AreCompiled}
 
 abbrev has_number : ℕ → Formula → Truth
 has_number object formula = eqb formula.object object

@@ -1,5 +1,5 @@
 -- The jumps of a choice are written after the ops that they pass.
-use Rattle.std.proofs.Common.{◌≡◌, ◌∙◌, ℕ, ◌+◌, List, [], ◌∷◌, ◌++◌, length, refl, sym, ap, arith, append_assoc, length-append}
+use Rattle.std.proofs.Common.{◌≡◌, ◌∙◌, ℕ, ◌+◌, List, [], ◌∷◌, ◌++◌, length, sym, ap, arith, append_assoc, length-append}
 use Rattle.std.specs.Prelude.{slice_set}
 use Rattle.std.proofs.Math.Seq.{set-append_seam}
 use Rattle.aw_cell.specs.declared.cell.Cell.TheVariants.{Na}
@@ -14,7 +14,8 @@ use Rattle.dml_kinds.specs.declared.tree.Tree.TheVariants.{rolls-If}
 use Rattle.dml_exec.specs.declared.kinds.Fix.{Fix}
 use Rattle.dml_exec.specs.declared.op.Op.{Op}
 use Rattle.dml_exec.specs.declared.op.Op.TheVariants.{Push, Branch, Jump}
-use Rattle.dml_compile.specs.inside.Emitted.{FormulaCode, Emitted, emitted, level_emitted, wanted_in, no_place, na_place, choice_ops, choice_from, choice_of}
+use Rattle.dml_compile.specs.TreeKinds.{wanted_in}
+use Rattle.dml_compile.specs.inside.Emitted.{FormulaCode, Emitted, emitted, level_emitted, no_place, na_place, choice_ops, choice_from, choice_of}
 
 two_writes : (c a b : List Op) (x y i j : Op) → slice_set (slice_set ((c ++ x ∷ a) ++ y ∷ b) (length (c ++ x ∷ a)) j) (length c) i ≡ c ++ i ∷ (a ++ j ∷ b)
 two_writes c a b x y i j =

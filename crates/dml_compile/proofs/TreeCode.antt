@@ -11,12 +11,14 @@ use Rattle.dml_exec.specs.declared.kinds.Fix.{Fix}
 use Rattle.dml_exec.specs.declared.kinds.Kinds.{Kinds}
 use Rattle.dml_exec.specs.declared.op.Op.{Op}
 use Rattle.dml_exec.specs.CodeRuns.{Accepts, AcceptedCodeIsNeverStuck}
+use Rattle.dml_exec.specs.Free.{free_dimensions}
 use Rattle.dml_exec.specs.Meaning.{CodeInputs, then_on, going, sole, ended, meaning}
 use Rattle.dml_compile.specs.Values.{Value, FormulaTree, formula_value, tree_value}
 use Rattle.dml_compile.specs.Compiled.{fixes_of, level_fixes, fixes_in, formula_fixes, tree_fixes, seen_by, LooksUp, Compiles}
 use Rattle.dml_compile.specs.inside.Emitted.{FormulaCode, Emitted, level_emitted, emitted, formula_code}
 use Rattle.dml_compile.proofs.ValuesOfOps.{Told, stood, Computes}
 use Rattle.dml_compile.proofs.NamesOfTrees.{KnownAt}
+use Rattle.dml_compile.proofs.FreeOfTrees.{tree_is_at}
 use Rattle.dml_compile.proofs.TreeValues.{tree_has, formula_codes}
 
 -- ---- fixed values
@@ -123,6 +125,7 @@ pub compiles : AcceptedCodeIsNeverStuck → (formulas : List FormulaTree) (kinds
 compiles never formulas kinds tree kind code accepted ops fixes = record {
   accepted = accepted;
   fixes = fixes ∙ tree_fixes_are formulas tree;
+  free = λ all named. accepted.free ∙ ap free_dimensions ops ∙ tree_is_at formulas tree kind all named;
   value = λ r slot looks fits.
       let run = never kinds code r accepted fits in
       let known : KnownAt r slot 0 (emitted (formula_code formulas) tree).fixes = subst (KnownAt r slot 0) fixes (known_looked_up r slot code.fixes looks) in

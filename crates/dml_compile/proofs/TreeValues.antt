@@ -1,5 +1,5 @@
 -- The ops of a tree have its value.
-use Rattle.std.proofs.Common.{◌≡◌, ℕ, ◌+◌, ◌&&◌, Bool as Truth, true, false, cond, eqb, List, [], ◌∷◌, ◌++◌, length, map, Some, Ok, refl, sym, ap, subst, arith, drop, ◌∙◌}
+use Rattle.std.proofs.Common.{◌≡◌, ℕ, ◌+◌, ◌&&◌, Bool as Truth, true, false, cond, eqb, List, [], ◌∷◌, ◌++◌, length, Some, Ok, refl, sym, ap, subst, arith, drop, ◌∙◌}
 use Rattle.std.specs.Prelude.{slice_get}
 use Rattle.aw_cell.specs.declared.cell.Cell.{Cell}
 use Rattle.aw_cell.specs.declared.cell.Cell.TheVariants.{Na}
@@ -20,13 +20,12 @@ use Rattle.dml_exec.specs.declared.op.Op.{Op}
 use Rattle.dml_exec.specs.declared.op.Op.TheVariants.{Push, Neg, Abs, Convert, Not}
 use Rattle.dml_exec.specs.declared.operator.Unary.{Unary}
 use Rattle.dml_exec.specs.declared.operator.Unary.TheVariants.{Neg as Negates, Abs as Sizes, Convert as Converts, Not as Inverts}
-use Rattle.dml_exec.specs.declared.operator.Binary.{Binary}
-use Rattle.dml_exec.specs.declared.operator.Binary.TheVariants.{Add as Adds, Sub as Subtracts, Mul as Multiplies, Div as Divides, Min as TakesLeast, Max as TakesGreatest, NaFill as Fills, Compare as Compares, And as Joins, Or as Offers}
 use Rattle.dml_exec.specs.Operators.{when, of_one, of_two}
 use Rattle.dml_exec.specs.Meaning.{CodeInputs, turn}
 use Rattle.dml_compile.specs.Values.{Value, Seen, Place, at_fixes, joint_value, on_one, on_two, chosen, level_value, value, FormulaTree, formula_value}
 use Rattle.dml_compile.specs.Compiled.{fixes_of, seen_by}
-use Rattle.dml_compile.specs.inside.Emitted.{FormulaCode, Emitted, wanted_in, joint_op, no_place, level_emitted, emitted, formula_code, emitted_one}
+use Rattle.dml_compile.specs.TreeKinds.{wanted_in, operator_of}
+use Rattle.dml_compile.specs.inside.Emitted.{FormulaCode, Emitted, joint_op, no_place, level_emitted, emitted, formula_code, emitted_one}
 use Rattle.dml_compile.proofs.ValuesOfOps.{Told, stood, Computes, op_computes, one_computes, two_computes}
 use Rattle.dml_compile.proofs.Choices.{choice_computes}
 use Rattle.dml_compile.proofs.NamesOfTrees.{KnownAt, known_front, known_back, load_computes, relation_computes, name_computes, local_computes}
@@ -38,19 +37,7 @@ told_when : (fits : Truth) (v : Value) → Told (when fits v) v
 told_when true v = refl
 told_when false v = tt
 
-abbrev binary : Joint → Binary
-binary joint.Or = Offers
-binary joint.And = Joins
-binary (joint.Compare order) = Compares order
-binary joint.Add = Adds
-binary joint.Sub = Subtracts
-binary joint.Mul = Multiplies
-binary joint.Div = Divides
-binary joint.Min = TakesLeast
-binary joint.Max = TakesGreatest
-binary joint.NaFill = Fills
-
-joint_told : (j : Joint) (a b : Cell) → Told (of_two (binary j) a b) (joint_value j a b)
+joint_told : (j : Joint) (a b : Cell) → Told (of_two (operator_of j) a b) (joint_value j a b)
 joint_told joint.Or a b = told_when (is_truth a && is_truth b) (Ok (either a b))
 joint_told joint.And a b = told_when (is_truth a && is_truth b) (Ok (both a b))
 joint_told (joint.Compare order) a b = told_when (can_be_compared order a b) (Ok (compared order a b))
@@ -62,7 +49,7 @@ joint_told joint.Min a b = told_when (is_numeric a && is_numeric b) (cell_least 
 joint_told joint.Max a b = told_when (is_numeric a && is_numeric b) (cell_greatest a b)
 joint_told joint.NaFill a b = refl
 
-joint_turns : (r : CodeInputs) (j : Joint) (at : ℕ) (cells : List Cell) (a b : Cell) → turn r at (joint_op j) (b ∷ a ∷ cells) ≡ stood (at + 1) cells (of_two (binary j) a b)
+joint_turns : (r : CodeInputs) (j : Joint) (at : ℕ) (cells : List Cell) (a b : Cell) → turn r at (joint_op j) (b ∷ a ∷ cells) ≡ stood (at + 1) cells (of_two (operator_of j) a b)
 joint_turns r joint.Or at cells a b = refl
 joint_turns r joint.And at cells a b = refl
 joint_turns r (joint.Compare order) at cells a b = refl
@@ -94,7 +81,7 @@ joined_has : (r : CodeInputs) (slot : ℕ → List ℕ → ℕ) (j : Joint) (met
 joined_has r slot j met v w left right h k formula = λ wanted start base known.
     let kind : Kind = wanted_in met wanted in
     two_computes r start (left.ops kind start base) (right.ops kind (start + length (left.ops kind start base)) (base + length left.fixes)) (joint_op j) v w
-    (of_two (binary j)) (joint_value j) (joint_told j) (λ at cells a b. joint_turns r j at cells a b)
+    (of_two (operator_of j)) (joint_value j) (joint_told j) (λ at cells a b. joint_turns r j at cells a b)
     (h kind start base (known_front r slot left.fixes right.fixes base known))
     (k kind (start + length (left.ops kind start base)) (base + length left.fixes) (known_back r slot left.fixes right.fixes base known))
 

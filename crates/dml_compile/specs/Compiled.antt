@@ -1,15 +1,17 @@
 -- What compiled code is: it has the value of its expression.
-use Rattle.std.specs.Prelude.{ℕ, ◌≡◌, List, [], ◌∷◌, ◌++◌, ◌==◌, map, All, Some, Result, if◌then◌else◌}
+use Rattle.std.specs.Prelude.{ℕ, ◌≡◌, List, [], ◌∷◌, ◌++◌, ◌==◌, map, All, Some, if◌then◌else◌}
 use Rattle.aw_cell.specs.declared.cell.Cell.TheVariants.{Text as Chars}
-use Rattle.aw_cell.specs.declared.cell.Kind.{Kind}
 use Rattle.dml_kinds.specs.declared.tree.FixedValue.{FixedValue}
 use Rattle.dml_kinds.specs.declared.tree.Tree.{Tree, fold-Tree}
 use Rattle.dml_kinds.specs.declared.tree.Tree.TheOpen.{Tree-F}
+use Rattle.dml_kinds.specs.FreeDimensions.{first_appearances}
+use Rattle.dml_kinds.specs.TreeDimensions.{tree_dimensions}
 use Rattle.dml_exec.specs.declared.code.Code.{Code}
 use Rattle.dml_exec.specs.declared.kinds.Fix.{Fix}
 use Rattle.dml_exec.specs.declared.kinds.Kinds.{Kinds}
 use Rattle.dml_exec.specs.Meaning.{CodeInputs, meaning}
 use Rattle.dml_exec.specs.CodeRuns.{Accepts, Fits}
+use Rattle.dml_compile.specs.NamedFormulas.{AreAsNamed, AllAreAsNamed}
 use Rattle.dml_compile.specs.Values.{Seen, FormulaTree, tree_value}
 
 -- ---- the fixed values of an expression, formulas looked through, in order of appearance
@@ -57,9 +59,11 @@ pub record LooksUp (r : CodeInputs) (slot : ℕ → List ℕ → ℕ) (fixes : L
   pub slots : r.fixed ≡ map (λ (fix : Fix). slot fix.dimension fix.value) fixes
   pub names : All (λ (fix : Fix). r.name fix.dimension (slot fix.dimension fix.value) ≡ Chars fix.value) fixes
 
--- Code of a tree over formulas: it is accepted over some kinds and fixes the values of the tree. On all that fits it gives
--- the value of the tree, at every place.
+-- Code of a tree over formulas: it is accepted over some kinds, fixes the values of the tree, and lies over its dimensions,
+-- in order of first appearance, where the names of formulas have the dimensions of these. On all that fits it gives the value
+-- of the tree, at every place.
 pub record Compiles (formulas : List FormulaTree) (kinds : Kinds) (tree : Tree) (code : Code) : Type 0 where
   pub accepted : Accepts kinds code
   pub fixes : code.fixes ≡ tree_fixes formulas tree
+  pub free : AllAreAsNamed formulas → AreAsNamed formulas tree → code.free ≡ first_appearances (tree_dimensions tree)
   pub value : (r : CodeInputs) (slot : ℕ → List ℕ → ℕ) → LooksUp r slot code.fixes → Fits kinds code r → meaning r code.ops ≡ Some (tree_value formulas (seen_by r slot) r.place tree)

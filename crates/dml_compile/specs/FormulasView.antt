@@ -1,5 +1,5 @@
 -- Formulas with their code, as callers see them.
-use Rattle.std.specs.Prelude.{ℕ, List, [], ◌∷◌, map}
+use Rattle.std.specs.Prelude.{ℕ, List}
 use Rattle.aw_cell.specs.declared.cell.Kind.{Kind}
 use Rattle.aw_cell.specs.declared.cell.Kind.TheVariants.{Int as INTEGER}
 use Rattle.dml_kinds.specs.declared.types.ValueType.{ValueType}

@@ -1,5 +1,8 @@
 pub mod Compiled
 pub mod FormulasView
+pub mod Laws
+pub mod NamedFormulas
 pub mod Objects
+pub mod TreeKinds
 pub mod Values
 pub mod inside

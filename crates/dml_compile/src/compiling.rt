@@ -1,8 +1,12 @@
-ghost use Rattle.std.specs.Prelude.{◌≡◌, IfOk};
-ghost use Rattle.dml_exec.specs.CodeRuns.{Accepts};
+ghost use Rattle.std.specs.Prelude.{◌≡◌, IfOk, IfErr, length};
+ghost use Rattle.dml_exec.specs.CodeRuns.{Accepts, FaultsAt};
+ghost use Rattle.dml_exec.specs.Verified.{rules_of};
+ghost use Rattle.dml_exec.specs.declared.fault.CodeFault.TheVariants.{NoMemory};
 ghost use Rattle.dml_compile.specs.Compiled.{Compiles};
 ghost use Rattle.dml_compile.specs.FormulasView.{formula_tree, kinds_with, wanted_for};
-ghost use Rattle.dml_compile.specs.inside.Library.{HasCode, tree_code};
+ghost use Rattle.dml_compile.specs.Laws.{HasAcceptedCode};
+ghost use Rattle.dml_compile.specs.inside.Emitted.{tree_code};
+ghost use Rattle.dml_compile.specs.inside.Library.{HasCode};
 
 use crate::draft::{Draft, no_ops};
 use crate::emitting::emit;
@@ -44,6 +48,7 @@ fn accepted(
     ensures ops { IfOk result (λ code. code.ops ≡ ops) }
     ensures fixes { IfOk result (λ code. code.fixes ≡ fixes) }
     ensures accepted { IfOk result (λ code. Accepts (kinds_with library.now.objects locals.now) code) }
+    ensures bad { IfErr result (FaultsAt (rules_of (kinds_with library.now.objects locals.now) (length fixes) ops)) }
 {
     if locals.is_empty() {
         return Code::verify(alloc, ops, fixes, &library.kinds);
@@ -52,14 +57,12 @@ fn accepted(
     Code::verify(alloc, ops, fixes, &kinds)
 }
 
-/// Code of an expression, with the ops of its tree.
-pub(crate) fn compiled(
-    alloc: Global,
-    typed: &TypedExpr,
-    library: &Formulas,
-) -> Result<Code, AllocError>
+/// The ops of an expression's tree, accepted. A bad op is never told of an expression that was
+/// accepted (`accepted_expressions_have_code`).
+fn tried(alloc: Global, typed: &TypedExpr, library: &Formulas) -> Result<Code, CodeFault>
     ensures code { IfOk result (λ code. HasCode code (tree_code library.now.trees (formula_tree 0 typed.now))) }
     ensures accepted { IfOk result (λ code. Accepts (kinds_with library.now.objects typed.now.locals) code) }
+    ensures bad { IfErr result (λ fault. HasAcceptedCode library.now.objects library.now.trees typed.now → fault ≡ NoMemory) }
 {
     let mut draft = no_ops(alloc);
     emit(
@@ -71,7 +74,19 @@ pub(crate) fn compiled(
     )?;
     let Draft { ops, fixes } = draft;
     let (ops, fixes) = (List::from_vec(ops), List::from_vec(fixes));
-    match accepted(alloc, library, typed.locals.as_slice(), ops, fixes) {
+    accepted(alloc, library, typed.locals.as_slice(), ops, fixes)
+}
+
+/// Code of an expression, with the ops of its tree.
+pub(crate) fn compiled(
+    alloc: Global,
+    typed: &TypedExpr,
+    library: &Formulas,
+) -> Result<Code, AllocError>
+    ensures code { IfOk result (λ code. HasCode code (tree_code library.now.trees (formula_tree 0 typed.now))) }
+    ensures accepted { IfOk result (λ code. Accepts (kinds_with library.now.objects typed.now.locals) code) }
+{
+    match tried(alloc, typed, library) {
         Ok(code) => Ok(code),
         Err(_) => Err(AllocError),
     }

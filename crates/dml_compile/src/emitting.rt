@@ -1,6 +1,7 @@
 //! The ops of a tree.
 ghost use Rattle.std.specs.Prelude.{◌≡◌, ◌++◌, length, OnOk};
 ghost use Rattle.dml_compile.specs.Compiled.{fixes_of};
+ghost use Rattle.dml_compile.specs.TreeKinds.{wanted_in};
 ghost use Rattle.dml_compile.specs.inside.Emitted as spec;
 
 use crate::draft::{Draft, end_choice, gap, number, put};
@@ -15,7 +16,7 @@ use std::alloc::{AllocError, Global};
 
 /// The kind in which operands are wanted that meet in a type.
 fn wanted_in(met: ValueType, wanted: Kind) -> Kind
-    ensures { result ≡ spec.wanted_in met wanted }
+    ensures { result ≡ wanted_in met wanted }
 {
     match met {
         ValueType::Na => wanted,

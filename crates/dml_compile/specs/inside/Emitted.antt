@@ -6,8 +6,6 @@ use Rattle.aw_cell.specs.declared.cell.Kind.{Kind}
 use Rattle.aw_cell.specs.declared.cell.Kind.TheVariants.{Num as NUMBER, Int as INTEGER, Text as TEXT, Bool as BOOLEAN}
 use Rattle.dml_tree.specs.declared.expr.Joint.{Joint}
 use Rattle.dml_tree.specs.declared.expr.Joint.TheVariants as joint
-use Rattle.dml_kinds.specs.declared.types.ValueType.{ValueType}
-use Rattle.dml_kinds.specs.declared.types.ValueType.TheVariants as type
 use Rattle.dml_kinds.specs.declared.tree.FixedValue.{FixedValue}
 use Rattle.dml_kinds.specs.declared.tree.Taken.{Taken}
 use Rattle.dml_kinds.specs.declared.tree.Tree.{Tree, fold-Tree}
@@ -19,6 +17,7 @@ use Rattle.dml_exec.specs.declared.op.Op.{Op}
 use Rattle.dml_exec.specs.declared.op.Op.TheVariants.{Push, Local, Load, Name, NameOf, Add, Sub, Mul, Div, Neg, Abs, Min, Max, NaFill, Convert, Compare, And, Or, Not, Branch, Jump}
 use Rattle.dml_compile.specs.Compiled.{fixes_of}
 use Rattle.dml_compile.specs.Values.{FormulaTree}
+use Rattle.dml_compile.specs.TreeKinds.{wanted_in}
 
 -- the ops of a formula, from the place 0 on, and what they fix
 pub record FormulaCode : Type 0 where
@@ -80,11 +79,6 @@ joint_op joint.Div = Div
 joint_op joint.Min = Min
 joint_op joint.Max = Max
 joint_op joint.NaFill = NaFill
-
--- the kind in which operands are wanted that meet in a type
-abbrev pub wanted_in : ValueType → Kind → Kind
-wanted_in type.Na wanted = wanted
-wanted_in (type.Of kind) wanted = kind
 
 -- where the second branch of a choice begins, whose condition ends before a place, and where its NA stands
 abbrev pub no_place : ℕ → List Op → ℕ
@@ -165,3 +159,10 @@ formula_code (formula ∷ earlier) object =
       fixes = (emitted (formula_code earlier) formula.tree).fixes;
     }
     else formula_code earlier object
+
+-- the code of one more
+abbrev pub tree_code : List FormulaTree → FormulaTree → FormulaCode
+tree_code formulas formula = record {
+  ops = (emitted (formula_code formulas) formula.tree).ops formula.kind 0 0;
+  fixes = (emitted (formula_code formulas) formula.tree).fixes;
+}

@@ -1,10 +1,10 @@
 -- How formulas are kept with their code.
-use Rattle.std.specs.Prelude.{◌≡◌, ℕ, List, [], ◌∷◌, map, MatchOption, Option}
+use Rattle.std.specs.Prelude.{◌≡◌, List, [], ◌∷◌, map, MatchOption, Option}
 use Rattle.dml_exec.specs.declared.code.Code.{Code}
 use Rattle.dml_compile.specs.Values.{FormulaTree}
 use Rattle.dml_compile.specs.FormulasView.{formula_tree}
 use Rattle.dml_compile.specs.declared.formulas.Formula.{Formula}
-use Rattle.dml_compile.specs.inside.Emitted.{FormulaCode, emitted, formula_code}
+use Rattle.dml_compile.specs.inside.Emitted.{FormulaCode, formula_code, tree_code}
 
 -- the last one first
 abbrev pub trees_of : List Formula → List FormulaTree
@@ -14,12 +14,6 @@ trees_of formulas = map (λ (formula : Formula). formula_tree formula.object for
 pub record HasCode (code : Code) (of : FormulaCode) : Type 0 where
   pub ops : code.ops ≡ of.ops
   pub fixes : code.fixes ≡ of.fixes
-
-abbrev pub tree_code : List FormulaTree → FormulaTree → FormulaCode
-tree_code formulas formula = record {
-  ops = (emitted (formula_code formulas) formula.tree).ops formula.kind 0 0;
-  fixes = (emitted (formula_code formulas) formula.tree).fixes;
-}
 
 -- each formula has the code of its expression, over those before it
 abbrev pub AreCompiled : List Formula → Type 0

@@ -1,4 +1,4 @@
-use Rattle.dml_compile.specs.inside.Emitted.{formula_code, wanted_in}
+use Rattle.dml_compile.specs.inside.Emitted.{formula_code}
 use Rattle.dml_compile.proofs.Patches.{tree_ops_made, tree_fixes_made}
 use Rattle.dml_compile.proofs.emitting.+emit.Goals as goal
 

@@ -1,4 +1,4 @@
-use Rattle.std.proofs.Common.{◌≡◌, ◌∙◌, ℕ, eqb, List, [], sym, ap, subst, reverse, Some, None}
+use Rattle.std.proofs.Common.{◌≡◌, ◌∙◌, eqb, List, [], sym, ap, subst, reverse}
 use Rattle.std.specs.List.{find}
 use Rattle.dml_compile.specs.declared.formulas.Formula.{Formula}
 use Rattle.dml_compile.specs.FormulasView.{FormulasView}
