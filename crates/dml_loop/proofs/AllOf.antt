@@ -5,7 +5,7 @@ use Rattle.std.proofs.lemmas.List.Elements.{All-tail}
 use Rattle.std.proofs.lemmas.List.{append-nil}
 use Rattle.std.proofs.lemmas.List.{at_drop_more, at_drop_all}
 use Rattle.dml_loop.specs.declared.fault.LoopFault.{LoopFault}
-use Rattle.dml_loop.specs.declared.fault.LoopFault.TheVariants.{Arith, NoValue, Empty, NoMemory}
+use Rattle.dml_loop.specs.declared.fault.LoopFault.TheVariants.{Arith, NoValue, Empty, TooMany, NoMemory}
 use Rattle.dml_loop.specs.Fixes.{Answers}
 use Rattle.dml_loop.specs.Loops.{all_of, on_ok, ok_map}
 use Rattle.dml_loop.specs.inside.Progress.{behind}
@@ -48,6 +48,7 @@ pub answers-err : {A : Type 0} (meant : Result A LoopFault) (why : LoopFault) �
 answers-err meant (Arith a) is = is
 answers-err meant (NoValue value) is = is
 answers-err meant (Empty dimension) is = is
+answers-err meant TooMany is = is
 answers-err meant NoMemory is = tt
 
 pub answers-same : {A : Type 0} (meant other : Result A LoopFault) (answer : Result A LoopFault) → meant ≡ other → Answers meant answer → Answers other answer

@@ -57,6 +57,18 @@ has-slot [] dimension h = absurd (false≢true h)
 has-slot (entry ∷ place) dimension h = found-entry entry place dimension (entry.0 == dimension) refl (has-slot place dimension) h
 
 -- where each free dimension is looped, what is read at each place fits
+pub loop-fits : (kinds : Kinds) (code : Code) (cell : ℕ → List ℕ → Cell) (name : ℕ → ℕ → Cell) (fixed : List ℕ) (locals : List Cell) (lists : List (ℕ × List ℕ)) → Reads kinds code cell name fixed locals →
+    ((dimension : ℕ) → IsTrue (is_among code.free dimension) → IsTrue (is_looped lists dimension)) →
+    All (λ (place : Place). Fits kinds code (read_at cell name fixed locals place)) (places lists)
+loop-fits kinds code cell name fixed locals lists reads looped = λ k d less. record {
+  places = λ dimension among. has-slot _ dimension (subst (λ (t : Truth). IsTrue t) (sym (entries-looped lists dimension k d less)) (looped dimension among));
+  fixed = reads.slots;
+  locals = reads.kept;
+  cells = reads.cells;
+  names = reads.names;
+}
+
+-- so that code may be run there
 pub can-loop : (kinds : Kinds) (code : Code) (cell : ℕ → List ℕ → Cell) (name : ℕ → ℕ → Cell) (fixed : List ℕ) (locals : List Cell) (lists : List (ℕ × List ℕ)) (may_read : ℕ → List ℕ → Type 0) (may_name : ℕ → ℕ → Type 0) →
     Accepts kinds code → MayAsk kinds may_read may_name → Reads kinds code cell name fixed locals →
     ((dimension : ℕ) → IsTrue (is_among code.free dimension) → IsTrue (is_looped lists dimension)) →
@@ -64,13 +76,7 @@ pub can-loop : (kinds : Kinds) (code : Code) (cell : ℕ → List ℕ → Cell) 
 can-loop kinds code cell name fixed locals lists may_read may_name accepted may_ask reads looped = record {
   kinds = kinds;
   accepted = accepted;
-  fits = λ k d less. record {
-    places = λ dimension among. has-slot _ dimension (subst (λ (t : Truth). IsTrue t) (sym (entries-looped lists dimension k d less)) (looped dimension among));
-    fixed = reads.slots;
-    locals = reads.kept;
-    cells = reads.cells;
-    names = reads.names;
-  };
+  fits = loop-fits kinds code cell name fixed locals lists reads looped;
   may_ask = may_ask;
 }
 
@@ -128,7 +134,19 @@ fits-first : (P : Place → Type 0) (r : Result Place LoopFault) → ((place : P
 fits-first P (Ok place) h = All-cons P place [] (h place refl) (All-nil P)
 fits-first P (Err why) h = All-nil P
 
--- the same of the first place alone
+-- what is read at the first place fits
+pub first-fits : (kinds : Kinds) (code : Code) (cell : ℕ → List ℕ → Cell) (name : ℕ → ℕ → Cell) (fixed : List ℕ) (locals : List Cell) (lists : List (ℕ × List ℕ)) → Reads kinds code cell name fixed locals →
+    ((dimension : ℕ) → IsTrue (is_among code.free dimension) → IsTrue (is_looped lists dimension)) →
+    (place : Place) → first_place lists ≡ Ok place → Fits kinds code (read_at cell name fixed locals place)
+first-fits kinds code cell name fixed locals lists reads looped place is = record {
+  places = λ dimension among. has-slot place dimension (subst (λ (t : Truth). IsTrue t) (sym (first-looped lists dimension place is)) (looped dimension among));
+  fixed = reads.slots;
+  locals = reads.kept;
+  cells = reads.cells;
+  names = reads.names;
+}
+
+-- so that code may be run there
 pub can-show : (kinds : Kinds) (code : Code) (cell : ℕ → List ℕ → Cell) (name : ℕ → ℕ → Cell) (fixed : List ℕ) (locals : List Cell) (lists : List (ℕ × List ℕ)) (may_read : ℕ → List ℕ → Type 0) (may_name : ℕ → ℕ → Type 0) →
     Accepts kinds code → MayAsk kinds may_read may_name → Reads kinds code cell name fixed locals →
     ((dimension : ℕ) → IsTrue (is_among code.free dimension) → IsTrue (is_looped lists dimension)) →
@@ -136,12 +154,6 @@ pub can-show : (kinds : Kinds) (code : Code) (cell : ℕ → List ℕ → Cell) 
 can-show kinds code cell name fixed locals lists may_read may_name accepted may_ask reads looped = record {
   kinds = kinds;
   accepted = accepted;
-  fits = fits-first (λ (place : Place). Fits kinds code (read_at cell name fixed locals place)) (first_place lists) (λ place is. record {
-    places = λ dimension among. has-slot place dimension (subst (λ (t : Truth). IsTrue t) (sym (first-looped lists dimension place is)) (looped dimension among));
-    fixed = reads.slots;
-    locals = reads.kept;
-    cells = reads.cells;
-    names = reads.names;
-  });
+  fits = fits-first (λ (place : Place). Fits kinds code (read_at cell name fixed locals place)) (first_place lists) (first-fits kinds code cell name fixed locals lists reads looped);
   may_ask = may_ask;
 }

@@ -10,6 +10,8 @@ pub enum LoopFault {
     NoValue(Text),
     /// The list of this dimension is empty.
     Empty { dimension: u16 },
+    /// There are more places than the statement may go to.
+    TooMany,
     /// There isn't enough memory.
     NoMemory,
 }
