@@ -76,6 +76,15 @@ reached cell dimension = cell
 abbrev pub private_of : ViewState → ℕ → Option Body
 private_of view object = option_map (λ (found : ObjectView). found.private) (object_of view object)
 
+-- the values of a dimension
+abbrev pub values_of : Option Body → Option DimensionState
+values_of (Some (Dim values)) = Some values
+values_of body = None
+
+-- those that the session sees, where it sees such a dimension
+abbrev pub values_in : ViewState → ℕ → Option DimensionState
+values_in view dimension = values_of (private_of view dimension)
+
 abbrev pub reached_by : ViewState → DefKind → Cell → Cell
 reached_by view (Relation target base) cell = reached cell (private_of view target)
 reached_by view kind cell = cell

@@ -1,5 +1,5 @@
 ghost use Rattle.std.specs.Prelude.{◌≡◌, ◌≢◌, ◌≤◌, ◌<◌, ◌↔◌, map, length, true, IsOk, IsSome, IsTrue, IfOk, OnOk, OnErr};
-ghost use Rattle.std.specs.Option.{IsSomeAnd, option_map};
+ghost use Rattle.std.specs.Option.{IsSomeAnd, option_copied, option_map};
 ghost use Rattle.aw_body.specs.Bodies.{IsBodyOf};
 ghost use Rattle.aw_body.specs.declared.body.Body.TheVariants.{Dim, Set};
 ghost use Rattle.mv_view.specs.ViewState as spec;
@@ -115,6 +115,26 @@ impl View {
             },
             None => false,
         }
+    }
+
+    /// The values of a dimension, as the session sees them, or `None` where it sees no such dimension.
+    pub fn values(&self, dimension: u16) -> Option<&Dimension>
+        ensures { option_copied result ≡ rule.values_in self.now dimension }
+    {
+        match kept_in(&self.objects, dimension) {
+            Some(kept) => match kept.body() {
+                Body::Dim(values) => Some(values),
+                _ => None,
+            },
+            None => None,
+        }
+    }
+
+    /// Tells that the three bodies of each object have the form of its definition, as they always have.
+    pub fn recall_forms(&self)
+        ensures { spec.AreSeen self.now.objects }
+    {
+        let _ = &self.owned;
     }
 
     /// Writes cells of one relation or variable, one after the other, into the private body. Their keys
