@@ -36,6 +36,18 @@ no_value text = record { number = 6; line = 0; detail = One text }
 abbrev pub repeated : List ℕ → Refusal
 repeated name = record { number = 7; line = 0; detail = One name }
 
+-- 8: a dimension has no value to go over
+abbrev pub null_status : List ℕ → Refusal
+null_status name = record { number = 8; line = 0; detail = One name }
+
+-- 9: a result is out of its range
+abbrev pub overflow : Refusal
+overflow = record { number = 9; line = 0; detail = Nothing }
+
+-- 10: a division by zero
+abbrev pub zero_divisor : Refusal
+zero_divisor = record { number = 10; line = 0; detail = Nothing }
+
 -- 14: there would be too many objects, or dimensions of a variable
 abbrev pub too_many : Refusal
 too_many = record { number = 14; line = 0; detail = Nothing }

@@ -5,5 +5,5 @@ mod refusal;
 mod report;
 
 pub use refusal::{Detail, Refusal};
-pub use report::{append_error, append_output, error_line};
+pub use report::{append_error, append_output, error_line, show};
 pub use std::alloc::AllocError as NoMemory;

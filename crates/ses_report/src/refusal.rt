@@ -98,6 +98,27 @@ impl Refusal {
         Refusal::of(7, Detail::One(object))
     }
 
+    /// Refusal 8: this dimension has no value to go over.
+    pub fn null_status(dimension: Text) -> Refusal
+        ensures { result ≡ spec.null_status dimension }
+    {
+        Refusal::of(8, Detail::One(dimension))
+    }
+
+    /// Refusal 9: a result is out of its range.
+    pub fn overflow() -> Refusal
+        ensures { result ≡ spec.overflow }
+    {
+        Refusal::of(9, Detail::Nothing)
+    }
+
+    /// Refusal 10: a division by zero.
+    pub fn zero_divisor() -> Refusal
+        ensures { result ≡ spec.zero_divisor }
+    {
+        Refusal::of(10, Detail::Nothing)
+    }
+
     /// Refusal 14: there would be more than 4,096 objects, or a variable of more than 6 dimensions.
     pub fn too_many() -> Refusal
         ensures { result ≡ spec.too_many }

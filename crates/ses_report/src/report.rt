@@ -1,9 +1,10 @@
 ghost use Rattle.std.specs.Prelude.{◌≡◌, ◌++◌, ◌∷◌, [], IfOk, OnOk, OnErr};
 ghost use Rattle.std.specs.Fmt.{decimal};
+ghost use Rattle.aw_cell.specs.CellText.{cell_text};
 ghost use Rattle.ses_report.specs.Reports as spec;
 
 use crate::refusal::{Detail, Refusal};
-use aw_cell::Text;
+use aw_cell::{Cell, Text};
 use aw_lists::List;
 use std::alloc::{AllocError, Global};
 
@@ -94,6 +95,16 @@ fn error_bytes(alloc: Global, mut line: Vec<u8>, refusal: &Refusal) -> Result<Ve
     append_refusal(alloc, &mut line, refusal)?;
     append(&mut line, b"\n")?;
     Ok(line)
+}
+
+/// The text of a cell, as SHOW prints it: NA, numbers in digits, a TEXT as it is, YES and NO
+/// (docs/LANGUAGE.md, "Texts of cells"). The only error is want of memory.
+pub fn show(alloc: Global, cell: &Cell) -> Result<List<u8>, AllocError>
+    ensures { IfOk result (λ text. text ≡ cell_text cell.now) }
+{
+    let mut text = [0; 64];
+    let len = cell.write(&mut text);
+    List::from_slice(alloc, &text[..len])
 }
 
 /// Appends one line of output: the prefix, a colon and a blank, the text and a LF (docs/LANGUAGE.md,
