@@ -2,9 +2,14 @@ mod Texts
 mod FirstPlaces
 mod Worked
 pub mod Seeing
-pub mod OnePage
 pub mod Begins
+mod NamedFormulas
 mod SessionChecks
+mod EffectsMeant
+mod Evaluating
+mod Maintaining
+mod Faults
+mod HeldCells
 mod Parts
 mod ReadyOnes
 mod SeenObjects

@@ -1,17 +1,12 @@
 -- What a view has of the objects of its definitions.
-use Rattle.std.specs.Prelude.{ℕ, zero, suc, ◌≡◌, Bool, true, false, cond, List, [], ◌∷◌, map, Option, Some, None, IfSome, IsSome, is_some, slice_get}
-use Rattle.std.specs.Option.{IsSomeAnd, option_map, option_and_then}
+use Rattle.std.specs.Prelude.{ℕ, zero, suc, ◌≡◌, Bool, true, false, cond, List, [], ◌∷◌, map, Option, Some, None, is_some, slice_get}
+use Rattle.std.specs.Option.{option_map, option_and_then}
 use Rattle.std.proofs.Common.{◌∙◌, ap, sym, refl, subst}
-use Rattle.aw_cell.specs.declared.cell.Kind.TheVariants.{Num, Int, Text, Bool as Truth, Slot}
 use Rattle.aw_schema.specs.declared.definition.Def.{Def}
-use Rattle.aw_schema.specs.declared.definition.DefKind.{DefKind}
-use Rattle.aw_schema.specs.declared.definition.DefKind.TheVariants.{Dimension, Relation, Valueset, Variable, Formula, Program, Aggmap}
 use Rattle.aw_schema.specs.Definitions.{is_kept}
 use Rattle.mv_view.specs.Each.{object_in}
 use Rattle.mv_view.specs.ViewState.{ObjectView, ViewState, object_of, kind_of, kinds_of, kept_kind, kept_kinds, owned_objects, AreOwned}
 use Rattle.mv_view.proofs.callers.OwnedObjects.{owned-listed}
-use Rattle.ses_step.specs.declared.session.Known.{Known}
-use Rattle.ses_step.specs.Sessions.{Sees, seen_in, is_single, is_single_at}
 
 -- ---- definitions
 
@@ -26,7 +21,7 @@ kept-at (def ∷ definitions) zero = refl
 kept-at (def ∷ definitions) (suc object) = kept-at definitions object
 
 module _ (view : ViewState) (definitions : List Def) (same : kinds_of view ≡ kept_kinds definitions) (object : ℕ) where
-  kind-at : option_map kind_of (object_of view object) ≡ option_and_then kept_kind (slice_get definitions object)
+  pub kind-at : option_map kind_of (object_of view object) ≡ option_and_then kept_kind (slice_get definitions object)
   kind-at = mapped' ∙ ap (λ kinds. object_in kinds object) same ∙ kept-at definitions object
     where
       mapped' : option_map kind_of (object_of view object) ≡ object_in (kinds_of view) object
@@ -56,43 +51,6 @@ module _ (view : ViewState) (definitions : List Def) (same : kinds_of view ≡ k
       by_kept : (b : Bool) → Some found.kind ≡ cond b (Some def.kind) None → found.kind ≡ def.kind
       by_kept true e = cc
       by_kept false e = cc
-
--- ---- INTEGER variables without dimensions
-
-single-kind : (kind : DefKind) → is_single kind ≡ true → kind ≡ Variable Int []
-single-kind (Variable Int []) is = refl
-single-kind (Variable Int (slot ∷ slots)) is = cc
-single-kind (Variable Num dimensions) is = cc
-single-kind (Variable Text dimensions) is = cc
-single-kind (Variable Truth dimensions) is = cc
-single-kind (Variable Slot dimensions) is = cc
-single-kind Dimension is = cc
-single-kind (Relation target base) is = cc
-single-kind (Valueset dimension) is = cc
-single-kind (Formula text) is = cc
-single-kind (Program text) is = cc
-single-kind (Aggmap text) is = cc
-
-abbrev single_def : Option Def → Bool
-single_def found = elim found [ None ↦ false | Some def ↦ is_single def.kind ]
-
-single-in : (view : ViewState) (definitions : List Def) → kinds_of view ≡ kept_kinds definitions → (object : ℕ) (found : Option ObjectView) (def : Option Def)
-    → object_of view object ≡ found → slice_get definitions object ≡ def → IsSome found → single_def def ≡ true → IsSomeAnd found (λ one. one.kind ≡ Variable Int [])
-single-in view definitions same object None def there is some single = cc
-single-in view definitions same object (Some found) None there is some single = cc
-single-in view definitions same object (Some found) (Some def) there is some single =
-    kind-seen view definitions same object found def there is ∙ single-kind def.kind single
-
-single-of : (definitions : List Def) (object : ℕ) (view : Option ViewState) → IfSome view (λ v. kinds_of v ≡ kept_kinds definitions)
-    → IsSome (elim view [ None ↦ None | Some v ↦ object_of v object ]) → is_single_at definitions object ≡ true
-    → IsSomeAnd (elim view [ None ↦ None | Some v ↦ object_of v object ]) (λ found. found.kind ≡ Variable Int [])
-single-of definitions object None sees some single = cc
-single-of definitions object (Some view) sees some single =
-    single-in view definitions sees object (object_of view object) (slice_get definitions object) refl refl some single
-
--- the object that a session sees is the variable that is defined
-pub single-seen : (definitions : List Def) (s : Known) (object : ℕ) → Sees definitions s → IsSome (seen_in s object) → is_single_at definitions object ≡ true → IsSomeAnd (seen_in s object) (λ found. found.kind ≡ Variable Int [])
-single-seen definitions s object sees some single = single-of definitions object s.view sees some single
 
 -- ---- the objects that a session owns
 

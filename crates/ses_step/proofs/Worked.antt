@@ -1,7 +1,8 @@
 -- Worked cases: what a line is, and what one session's commands do, by computation.
-use Rattle.std.specs.Prelude.{ℕ, ℤ, ◌≡◌, ◌++◌, true, false, List, [], ◌∷◌, codes, pos, Option, Some}
+use Rattle.std.specs.Prelude.{ℕ, ℤ, ◌≡◌, ◌++◌, true, false, List, [], ◌∷◌, codes, pos, Option, Some, None}
 use Rattle.std.proofs.Common.{refl}
-use Rattle.aw_cell.specs.declared.cell.Cell.TheVariants.{Int}
+use Rattle.aw_cell.specs.declared.cell.Cell.{Cell}
+use Rattle.aw_cell.specs.declared.cell.Cell.TheVariants.{Int, Na}
 use Rattle.aw_cell.specs.declared.cell.Kind.TheVariants.{Int as Integer}
 use Rattle.aw_schema.specs.declared.definition.Def.{Def}
 use Rattle.aw_schema.specs.declared.definition.DefKind.{DefKind}
@@ -13,12 +14,13 @@ use Rattle.aw_body.specs.declared.patch.BodyPatch.TheVariants.{Cells as CellPatc
 use Rattle.mv_core.specs.declared.entry.Entry.TheVariants as entry
 use Rattle.mv_core.specs.declared.entry.Reply.{Reply}
 use Rattle.mv_core.specs.declared.entry.Reply.TheVariants as reply
-use Rattle.ses_report.specs.Refusals.{no_form, syntax, bad_line, not_attached, already_attached, too_large, newer}
+use Rattle.mv_view.specs.Rules.{read}
+use Rattle.ses_report.specs.Refusals.{syntax, bad_line, not_attached, already_attached, too_large, newer}
 use Rattle.ses_step.specs.declared.answer.Answer.{Answer}
 use Rattle.ses_step.specs.declared.answer.Answer.TheVariants.{Done, Shown, Refused}
 use Rattle.ses_step.specs.declared.command.Command.{Command}
 use Rattle.dml_tree.specs.declared.statement.Mode.TheVariants.{Multi, ReadOnly}
-use Rattle.ses_step.specs.declared.command.Command.TheVariants.{Attach, Detach, Acquire, Release, Revert, Assign, Update, Commit, Show}
+use Rattle.ses_step.specs.declared.command.Command.TheVariants.{Attach, Detach, Acquire, Release, Revert, Write, Update, Commit, Show}
 use Rattle.ses_step.specs.declared.line.LineForm.TheVariants as line
 use Rattle.ses_step.specs.declared.session.Begun.{Begun}
 use Rattle.ses_step.specs.declared.session.Begun.TheVariants.{Said, Ask}
@@ -107,16 +109,27 @@ attached = after (new_session 1) (reply.Attached (generation 0 3 (holding (pos 5
 acquires : Command
 acquires = Acquire (0 ∷ []) [] []
 
+writes : ℤ → Command
+writes value = Write 0 (([], Int value) ∷ [])
+
 -- it has acquired v and written 8 into it
 written : Known
-written = then (after attached (reply.Acquired []) (Some acquires)) (Assign v (pos 8))
+written = then (after attached (reply.Acquired []) (Some acquires)) (writes (pos 8))
+
+-- what it reads of v
+value_of : Known → Cell
+value_of s = elim s.view [ None ↦ Na | Some view ↦ read view 0 [] ]
 
 staged : Known
 staged = then written (Update [])
 
-unattached : said (new_session 1) (Show v) ≡ Said (Refused not_attached)
-unfolding said all defined v
+unattached : said (new_session 1) (Show (Int (pos 5))) ≡ Said (Refused not_attached)
+unfolding said
 unattached = refl
+
+unattached_written : said (new_session 1) (writes (pos 8)) ≡ Said (Refused not_attached)
+unfolding said writes
+unattached_written = refl
 
 attaches : said (new_session 1) (Attach ReadOnly) ≡ Ask (entry.Attach 1)
 unfolding said
@@ -126,76 +139,72 @@ attached_twice : said attached (Attach Multi) ≡ Said (Refused already_attached
 unfolding said attached after
 attached_twice = refl
 
-shown : said attached (Show (codes "V")) ≡ Said (Shown (Int (pos 5)))
-unfolding said attached after all defined v generation holding
+shown : said attached (Show (Int (pos 7))) ≡ Said (Shown (Int (pos 7)))
+unfolding said attached after
 shown = refl
 
--- an object that is no single INTEGER variable may be acquired, and isn't shown
+-- an object that is no variable may be acquired
 valueset_acquired : said attached (Acquire (1 ∷ []) [] []) ≡ Ask (entry.Acquire 1 (record { object = 1; number = 1 } ∷ []) [] [])
 unfolding said attached after all defined v generation holding
 valueset_acquired = refl
 
-valueset_shown : said attached (Show (codes "chosen")) ≡ Said (Refused no_form)
-unfolding said attached after all defined v generation holding
-valueset_shown = refl
-
 -- a session reads what it wrote, and commits what it staged
-written_shown : said written (Show v) ≡ Said (Shown (Int (pos 8)))
-unfolding said written then acquires attached after all defined v generation holding
-written_shown = refl
+written_read : value_of written ≡ Int (pos 8)
+unfolding value_of written writes then acquires attached after all defined v generation holding
+written_read = refl
 
 nothing_staged : said written Commit ≡ Said Done
-unfolding said written then acquires attached after all defined v generation holding
+unfolding said written writes then acquires attached after all defined v generation holding
 nothing_staged = refl
 
 change_asked : said staged Commit ≡ Ask (entry.Commit 1 (record { object = 0; patch = CellPatch (([], Int (pos 8)) ∷ []) } ∷ []) [])
-unfolding said staged written then acquires attached after all defined v generation holding
+unfolding said staged written writes then acquires attached after all defined v generation holding
 change_asked = refl
 
 -- what isn't owned isn't staged
-unowned : said (then (then attached (Assign v (pos 8))) (Update [])) Commit ≡ Said Done
-unfolding said then attached after all defined v generation holding
+unowned : said (then (then attached (writes (pos 8))) (Update [])) Commit ≡ Said Done
+unfolding said then writes attached after all defined v generation holding
 unowned = refl
 
 -- behind the commit the generation is the next one, and nothing is staged
 committed_acquired : said (after staged reply.Committed (Some Commit)) acquires ≡ Ask (entry.Acquire 1 (record { object = 0; number = 4 } ∷ []) [] [])
-unfolding said staged written then acquires attached after all defined v generation holding
+unfolding said staged written writes then acquires attached after all defined v generation holding
 committed_acquired = refl
 
 committed_twice : said (after staged reply.Committed (Some Commit)) Commit ≡ Said Done
-unfolding said staged written then acquires attached after all defined v generation holding
+unfolding said staged written writes then acquires attached after all defined v generation holding
 committed_twice = refl
 
 -- ---- giving up, and taking back
 
 -- where nothing is staged the shared state is asked, and elsewhere the object is left by the next commit
 given_up : said written (Release (0 ∷ [])) ≡ Ask (entry.Release 1 (0 ∷ []))
-unfolding said then staged written acquires attached after all defined v generation holding
+unfolding said then staged written writes acquires attached after all defined v generation holding
 given_up = refl
 
 left_later : said staged (Release (0 ∷ [])) ≡ Said Done
-unfolding said then staged written acquires attached after all defined v generation holding
+unfolding said then staged written writes acquires attached after all defined v generation holding
 left_later = refl
 
 leaving_asked : said (then staged (Release (0 ∷ []))) Commit ≡ Ask (entry.Commit 1 (record { object = 0; patch = CellPatch (([], Int (pos 8)) ∷ []) } ∷ []) (0 ∷ []))
-unfolding said then staged written acquires attached after all defined v generation holding
+unfolding said then staged written writes acquires attached after all defined v generation holding
 leaving_asked = refl
 
 -- nothing is staged any more, and it leaves all the same
-leaving_alone : said (then (then (then staged (Release (0 ∷ []))) (Assign v (pos 5))) (Update [])) Commit ≡ Ask (entry.Commit 1 [] (0 ∷ []))
-unfolding said then staged written acquires attached after all defined v generation holding
+leaving_alone : said (then (then (then staged (Release (0 ∷ []))) (writes (pos 5))) (Update [])) Commit ≡ Ask (entry.Commit 1 [] (0 ∷ []))
+unfolding said then staged written writes acquires attached after all defined v generation holding
 leaving_alone = refl
 
-taken_back : said (then written (Revert [])) (Show v) ≡ Said (Shown (Int (pos 5)))
-unfolding said then staged written acquires attached after all defined v generation holding
+taken_back : value_of (then written (Revert [])) ≡ Int (pos 5)
+unfolding value_of then written writes acquires attached after all defined v generation holding
 taken_back = refl
 
-staged_kept : said (then staged (Revert [])) (Show v) ≡ Said (Shown (Int (pos 8)))
-unfolding said then staged written acquires attached after all defined v generation holding
+staged_kept : value_of (then staged (Revert [])) ≡ Int (pos 8)
+unfolding value_of then staged written writes acquires attached after all defined v generation holding
 staged_kept = refl
 
-left : said (after attached reply.Detached (Some Detach)) (Show v) ≡ Said (Refused not_attached)
-unfolding said then staged written acquires attached after all defined v generation holding
+left : said (after attached reply.Detached (Some Detach)) (writes (pos 8)) ≡ Said (Refused not_attached)
+unfolding said writes attached after all defined v generation holding
 left = refl
 
 -- ---- refusals by the reply

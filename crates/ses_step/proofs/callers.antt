@@ -2,3 +2,5 @@
 pub mod SessionPlaces
 pub mod ViewsOfDefinitions
 pub mod ReadySessions
+pub mod ReadyLines
+pub mod GuardedValues

@@ -5,5 +5,8 @@ pub mod Answers
 pub mod Commands
 pub mod Sessions
 pub mod Refusing
+pub mod Maintaining
+pub mod Meant
 pub mod SessionLines
 pub mod Kept
+pub mod inside

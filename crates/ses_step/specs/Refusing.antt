@@ -66,7 +66,7 @@ told NoMemory = no_form
 
 -- a statement of a session, which has no locals; no object has a text yet
 abbrev pub checked : List Def → Statement → Result Typed TypeFault
-checked definitions s = statement_answer (names_in definitions [] []) [] s
+checked definitions s = statement_answer (names_in definitions [] []) [] [] s
 
 -- the objects that an accepted statement names outside of expressions, in the order written
 abbrev pub objects_of : Result Typed TypeFault → List ℕ

@@ -10,13 +10,12 @@ use Rattle.ses_report.specs.Refusals.{no_form, syntax, not_in_a_program, in_line
 use Rattle.ses_step.specs.declared.answer.Answer.TheVariants as answer
 use Rattle.ses_step.specs.declared.command.Asked.{Asked}
 use Rattle.ses_step.specs.declared.command.Asked.TheVariants.{Runs, Refused}
-use Rattle.ses_step.specs.declared.command.Command.{Command}
 use Rattle.ses_step.specs.declared.session.Begun.{Begun}
 use Rattle.ses_step.specs.declared.session.Begun.TheVariants.{Said}
 use Rattle.ses_step.specs.declared.session.Known.{Known}
 use Rattle.ses_step.specs.declared.session.Session.{Session}
-use Rattle.ses_step.specs.Commands.{command_of}
-use Rattle.ses_step.specs.Refusing.{statement_refusal, objects_named}
+use Rattle.ses_step.specs.Meant.{meant}
+use Rattle.ses_step.specs.Refusing.{statement_refusal}
 use Rattle.ses_step.specs.Sessions.{begun, resting, kept_waiting, IsReady}
 
 -- a fault of the tokens or the grammar; want of memory is none
@@ -25,24 +24,19 @@ parse_refusal (Syntax line column) = in_line line (syntax column)
 parse_refusal (NotHere line) = in_line line not_in_a_program
 parse_refusal NoMemory = no_form
 
--- what passes all tests and doesn't run yet is refused with 1
-abbrev pub runs : Option Command → Asked
-runs (Some command) = Runs command
-runs None = Refused no_form
-
-abbrev pub asked_unless : List Def → Option Refusal → Statement → Asked
-asked_unless definitions (Some refusal) statement = Refused refusal
-asked_unless definitions None statement = runs (command_of statement (objects_named definitions statement))
+abbrev pub asked_unless : List Def → Known → Option Refusal → Statement → Asked
+asked_unless definitions s (Some refusal) statement = Refused refusal
+asked_unless definitions s None statement = meant definitions s statement
 
 abbrev pub asked_by : List Def → Known → Result Statement ParseFault → Asked
 asked_by definitions s (Err fault) = Refused (parse_refusal fault)
-asked_by definitions s (Ok statement) = asked_unless definitions (statement_refusal definitions s statement) statement
+asked_by definitions s (Ok statement) = asked_unless definitions s (statement_refusal definitions s statement) statement
 
 -- the command that a line asks for, whose statement stands from this place on, or why it is refused
 abbrev pub asked : List Def → Known → List ℕ → ℕ → Asked
 asked definitions s line from = asked_by definitions s (statement_in line from)
 
--- what a command stages or gives up the session owns
+-- the session is ready for what it asks
 abbrev pub IsReadyFor : Known → Asked → Type 0
 IsReadyFor s (Refused refusal) = Unit {0}
 IsReadyFor s (Runs command) = IsReady s command

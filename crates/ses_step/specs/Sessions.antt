@@ -1,15 +1,17 @@
 -- What a command means for one session: what it is answered, or what it asks of the shared state and what it makes of the reply.
 --
 -- An attached session has a view of the objects that are kept (mv_view). The definitions are those of all objects, in order.
-use Rattle.std.specs.Prelude.{◌≡◌, ℕ, List, [], ◌∷◌, map, filter, cond, Option, Some, None, IfSome, Result, Ok, Err, Bool, true, false, slice_get, slice_index_or, ⊤}
-use Rattle.std.specs.Option.{option_map}
-use Rattle.aw_cell.specs.declared.cell.Cell.{Cell}
-use Rattle.aw_cell.specs.declared.cell.Cell.TheVariants.{Na, Int}
-use Rattle.aw_cell.specs.declared.cell.Kind.TheVariants.{Int as Integer}
+use Rattle.std.specs.Prelude.{◌≡◌, ◌≤◌, ℕ, List, [], ◌∷◌, length, map, filter, cond, nat_le, Option, Some, None, IfSome, Bool, true, IsTrue, slice_get, slice_index_or, ⊤}
+use Rattle.std.specs.Option.{option_map, IsSomeAnd}
+use Rattle.std.specs.List.{list_all}
+use Rattle.aw_cell.specs.declared.cell.Kind.TheVariants.{Slot}
+use Rattle.aw_dim.specs.DimensionState.{DimensionState, IsDimension}
 use Rattle.aw_schema.specs.declared.definition.Def.{Def}
 use Rattle.aw_schema.specs.declared.definition.DefKind.{DefKind}
-use Rattle.aw_schema.specs.declared.definition.DefKind.TheVariants.{Variable}
-use Rattle.aw_schema.specs.Definitions as definition
+use Rattle.aw_schema.specs.declared.definition.DefKind.TheVariants.{Dimension, Relation, Variable}
+use Rattle.aw_var.specs.CellMap.{Cells}
+use Rattle.aw_body.specs.declared.body.Body.{Body}
+use Rattle.aw_body.specs.declared.body.Body.TheVariants.{Dim}
 use Rattle.aw_body.specs.declared.change.Change.{Change}
 use Rattle.aw_body.specs.declared.change.Seen.{Seen}
 use Rattle.dml_tree.specs.declared.statement.Mode.{Mode}
@@ -25,12 +27,12 @@ use Rattle.ses_step.specs.declared.command.Command.{Command}
 use Rattle.ses_step.specs.declared.command.Command.TheVariants as command
 use Rattle.ses_step.specs.declared.answer.Answer.{Answer}
 use Rattle.ses_step.specs.declared.answer.Answer.TheVariants.{Done, Shown, Refused}
-use Rattle.ses_report.specs.declared.refusal.Refusal.{Refusal}
+use Rattle.ses_value.specs.Held.{is_held}
 use Rattle.ses_step.specs.declared.session.Begun.{Begun}
 use Rattle.ses_step.specs.declared.session.Begun.TheVariants.{Said, Ask}
 use Rattle.ses_step.specs.declared.session.Known.{Known}
 use Rattle.ses_step.specs.declared.session.Session.{Session}
-use Rattle.ses_report.specs.Refusals.{no_form, not_attached, already_attached, owned_by, newer, not_acquired, full, too_large, disk_fault}
+use Rattle.ses_report.specs.Refusals.{not_attached, already_attached, owned_by, newer, not_acquired, full, too_large, disk_fault}
 
 -- a session that isn't attached
 abbrev pub new_session : ℕ → Known
@@ -51,6 +53,10 @@ waiting known own = holding known (Some own)
 abbrev pub Sees : List Def → Known → Type 0
 Sees definitions s = IfSome s.view (λ view. kinds_of view ≡ kept_kinds definitions)
 
+-- the name of an object, and the empty one past the last
+abbrev pub name_of : List Def → ℕ → List ℕ
+name_of definitions object = elim (slice_get definitions object) [ None ↦ [] | Some def ↦ def.name ]
+
 -- ---- an object that a session sees
 
 abbrev pub seen_in : Known → ℕ → Option ObjectView
@@ -63,43 +69,6 @@ number_in s object = elim (seen_in s object) [ None ↦ 0 | Some found ↦ found
 -- the generation that the session has of it
 abbrev pub generation_in : Known → ℕ → Seen
 generation_in s object = record { object = object; number = number_in s object }
-
--- ---- an INTEGER variable without dimensions
-
--- no line shows or assigns any other object yet
-abbrev pub is_single : DefKind → Bool
-is_single (Variable Integer []) = true
-is_single _ = false
-
-abbrev pub is_single_at : List Def → ℕ → Bool
-is_single_at definitions object = elim (slice_get definitions object) [ None ↦ false | Some def ↦ is_single def.kind ]
-
--- its one cell
-abbrev pub cell_in : Known → ℕ → Cell
-cell_in s object = elim s.view [ None ↦ Na | Some view ↦ rule.read view object [] ]
-
-abbrev pub with_cell : Known → ℕ → Cell → Known
-with_cell s object cell = record s { view = option_map (λ view. rule.written view object (([], cell) ∷ [])) s.view }
-
--- ---- the command
-
--- the object that a command names: a name that isn't defined is refused first, then a session that isn't attached, then an object
--- that isn't kept
-abbrev pub located : List Def → Known → List ℕ → Result ℕ Refusal
-located definitions s name = elim (definition.object_of definitions name) [
-  | None ↦ Err no_form
-  | Some object ↦ elim s.view [
-    | None ↦ Err not_attached
-    | Some view ↦ elim (object_of view object) [ None ↦ Err no_form | Some found ↦ Ok object ]
-  ]
-]
-
--- the variable whose one cell a command names: what is no such variable is refused last
-abbrev pub located_cell : List Def → Known → List ℕ → Result ℕ Refusal
-located_cell definitions s name = elim (located definitions s name) [
-  | Err refusal ↦ Err refusal
-  | Ok object ↦ cond (is_single_at definitions object) (Ok object) (Err no_form)
-]
 
 -- ---- sharing
 
@@ -129,6 +98,13 @@ abbrev pub release_asked : Known → ViewState → List ℕ → List ℕ → Beg
 release_asked s view objects [] = (Said Done, record s { view = Some (rule.released view objects) })
 release_asked s view objects (object ∷ unstaged) = (Ask (entry.Release s.who (object ∷ unstaged)), s)
 
+-- cells that are written lie on at most 65,536 pages, or the object is full
+abbrev pub write_asked : List Def → Known → ViewState → ℕ → Cells → Begun × Known
+write_asked definitions s view object cells =
+    cond (nat_le (rule.private_pages (rule.written view object cells) object) 65536)
+    (Said Done, record s { view = Some (rule.written view object cells) })
+    (Said (Refused (full (name_of definitions object))), s)
+
 -- what a command comes to that a session gives which is attached
 abbrev pub sharing : Known → ViewState → Command → Begun × Known
 sharing s view command.Detach = (Ask (entry.Detach s.who), s)
@@ -139,6 +115,8 @@ sharing s view (command.Release objects) = release_asked s view objects (unstage
 sharing s view (command.Revert objects) = (Said Done, record s { view = Some (rule.reverted view (or_all (seen_objects view) objects)) })
 sharing s view (command.Update objects) = (Said Done, record s { view = Some (rule.updated view (or_all (owned_objects view) objects)) })
 sharing s view command.Commit = commit_asked s (rule.changes view) (leaving view)
+sharing s view (command.Show cell) = (Said (Shown cell), s)
+sharing s view (command.Maintain object values) = (Said Done, record s { view = Some (rule.maintained view object values) })
 sharing s view _ = (Said Done, s)
 
 -- a refusal leaves the session as it was
@@ -147,13 +125,9 @@ begun definitions s (command.Attach mode) = elim s.view [
   | None ↦ (Ask (entry.Attach s.who), s)
   | Some view ↦ (Said (Refused already_attached), s)
 ]
-begun definitions s (command.Assign name value) = elim (located_cell definitions s name) [
-  | Err refusal ↦ (Said (Refused refusal), s)
-  | Ok object ↦ (Said Done, with_cell s object (Int value))
-]
-begun definitions s (command.Show name) = elim (located_cell definitions s name) [
-  | Err refusal ↦ (Said (Refused refusal), s)
-  | Ok object ↦ (Said (Shown (cell_in s object)), s)
+begun definitions s (command.Write object cells) = elim s.view [
+  | None ↦ (Said (Refused not_attached), s)
+  | Some view ↦ write_asked definitions s view object cells
 ]
 begun definitions s own = elim s.view [
   | None ↦ (Said (Refused not_attached), s)
@@ -165,24 +139,40 @@ abbrev pub kept_waiting : Command → Begun × Known → Begun × Session
 kept_waiting own (Said answer, s) = (Said answer, resting s)
 kept_waiting own (Ask entry, s) = (Ask entry, waiting s own)
 
--- what a command stages or gives up the session owns
+-- an object of this definition can hold these cells
+abbrev pub AreHeldBy : DefKind → Cells → Type 0
+AreHeldBy (Relation target base) cells = IsTrue (list_all (is_held 1 Slot) cells)
+AreHeldBy (Variable kind dimensions) cells = IsTrue (list_all (is_held (length dimensions) kind) cells)
+AreHeldBy _ cells = ⊥
+
+-- the next slot of a body that is a dimension
+abbrev pub next_of : Body → ℕ
+next_of (Dim values) = values.next
+next_of body = 0
+
+-- an owned dimension, which gets these values and gives no slot again
+pub record CanMaintain (values : DimensionState) (found : ObjectView) : Type 0 where
+  pub kind : found.kind ≡ Dimension
+  pub owned : found.owned ≡ true
+  pub valid : IsDimension values
+  pub next : next_of found.private ≤ values.next
+
+-- what a command stages, gives up or maintains the session owns, and what it writes its object can hold
 abbrev pub IsReady : Known → Command → Type 0
 IsReady s (command.Release objects) = IfSome s.view (λ view. AreOwned view objects)
 IsReady s (command.Update objects) = IfSome s.view (λ view. AreOwned view objects)
+IsReady s (command.Write object cells) = IfSome s.view (λ view. IsSomeAnd (object_of view object) (λ found. AreHeldBy found.kind cells))
+IsReady s (command.Maintain object values) = IfSome s.view (λ view. IsSomeAnd (object_of view object) (CanMaintain values))
 IsReady s _ = Unit {0}
 
 -- the commands at whose beginning there may be too little memory
 abbrev pub TakesMemory : Command → Type 0
 TakesMemory (command.Attach mode) = ⊥
 TakesMemory command.Detach = ⊥
-TakesMemory (command.Show name) = ⊥
+TakesMemory (command.Show cell) = ⊥
 TakesMemory _ = ⊤
 
 -- ---- the reply
-
--- the name of an object, and the empty one past the last
-abbrev pub name_of : List Def → ℕ → List ℕ
-name_of definitions object = elim (slice_get definitions object) [ None ↦ [] | Some def ↦ def.name ]
 
 -- a name in a list, and the empty one past its end
 abbrev pub name_at : List (List ℕ) → ℕ → List ℕ

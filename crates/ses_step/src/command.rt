@@ -1,15 +1,16 @@
 ghost use Rattle.std.specs.Prelude.{◌≡◌, IfOk};
 ghost use Rattle.ses_step.specs.Commands as spec;
-ghost use Rattle.ses_step.specs.SessionLines.{runs};
+ghost use Rattle.ses_step.specs.Meant.{runs};
 
-use aw_cell::Text;
-use aw_lists::List;
-use dml_tree::{Expr, Mode, Statement, Target};
+use aw_cell::Cell;
+use aw_dim::Dimension;
+use aw_lists::{Coord, List};
+use dml_tree::{Mode, Statement};
 use ses_report::Refusal;
 use std::alloc::{AllocError, Global};
 
-/// A statement of a session that runs (docs/LANGUAGE.md, "Statements"). Objects stand by their numbers, in
-/// the order written; the names of an assignment and of SHOW as they were written.
+/// What a statement of a session comes to (docs/LANGUAGE.md, "Statements"). Objects stand by their
+/// numbers, in the order written; expressions and values were evaluated before.
 #[derive(Drop)]
 pub enum Command {
     /// `AW ATTACH`
@@ -33,13 +34,18 @@ pub enum Command {
     Update(List<u16>),
     /// `COMMIT`
     Commit,
-    /// `name = numeral`, with an INTEGER from 0 to 2147483647.
-    Assign {
-        name: Text,
-        value: i32,
+    /// An assignment: these cells of a variable or a relation, which it can hold.
+    Write {
+        object: u16,
+        cells: List<(Coord, Cell)>,
     },
-    /// `SHOW name`
-    Show(Text),
+    /// `SHOW`, of this cell.
+    Show(Cell),
+    /// `MAINTAIN`: the values that a dimension has from now on.
+    Maintain {
+        object: u16,
+        values: Dimension,
+    },
 }
 
 /// What a line asks of its session.
@@ -49,41 +55,6 @@ pub enum Asked {
     Runs(Command),
     /// Nothing: it is refused so.
     Refused(Refusal),
-}
-
-/// A name without fixed values.
-fn name_alone(target: &Target) -> Option<Text>
-    ensures { result ≡ spec.name_alone target.now }
-{
-    if target.fixes.len() == 0 {
-        Some(target.name)
-    } else {
-        None
-    }
-}
-
-fn name_in(expr: &Expr) -> Option<Text>
-    ensures { result ≡ spec.name_in expr.now }
-{
-    match expr {
-        Expr::Object(target) => name_alone(target),
-        _ => None,
-    }
-}
-
-fn without_sign(value: i32) -> Option<i32>
-    ensures { result ≡ spec.without_sign value }
-{
-    if value >= 0 { Some(value) } else { None }
-}
-
-fn integer_in(expr: &Expr) -> Option<i32>
-    ensures { result ≡ spec.integer_in expr.now }
-{
-    match expr {
-        Expr::Integer(value) => without_sign(*value),
-        _ => None,
-    }
 }
 
 /// The lists of an ACQUIRE, of these lengths, one behind the other.
@@ -105,16 +76,8 @@ fn acquire_of(
     })
 }
 
-fn assignment_of(target: Option<Text>, value: Option<i32>) -> Option<Command>
-    ensures { result ≡ spec.assignment_of target value }
-{
-    let name = target?;
-    let value = value?;
-    Some(Command::Assign { name, value })
-}
-
-/// The command that a statement is which names these objects outside of expressions, or `None` where
-/// statements of its form don't run yet. The only error is want of memory.
+/// The command that a statement is which shares the workspace and names these objects, or `None` for
+/// any other statement. The only error is want of memory.
 pub fn command_of(
     alloc: Global,
     statement: &Statement,
@@ -133,13 +96,11 @@ pub fn command_of(
         Statement::Revert(_) => Some(Command::Revert(List::from_slice(alloc, objects)?)),
         Statement::Update(_) => Some(Command::Update(List::from_slice(alloc, objects)?)),
         Statement::Commit => Some(Command::Commit),
-        Statement::Assign(target, expr) => assignment_of(name_alone(target), integer_in(expr)),
-        Statement::Show(expr) => name_in(expr).map(Command::Show),
         _ => None,
     })
 }
 
-/// What is asked by a statement that passed all tests. One that doesn't run yet is refused with 1.
+/// What is asked by a statement that shares the workspace. One that doesn't run yet is refused with 1.
 pub fn runs(command: Option<Command>) -> Asked
     ensures { result ≡ runs command }
 {

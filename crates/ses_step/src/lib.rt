@@ -5,6 +5,7 @@
 mod answer;
 mod command;
 mod definition;
+mod effects;
 mod line;
 mod names;
 mod objects;

@@ -5,8 +5,7 @@ ghost use Rattle.aw_schema.specs.Definitions.{is_kept};
 ghost use Rattle.mv_view.specs.ViewState.{kinds_of, kept_kinds, object_of};
 ghost use Rattle.ses_step.specs.Sessions as spec;
 
-use aw_cell::{Kind, Text};
-use aw_lists::Coord;
+use aw_cell::Text;
 use aw_schema::{Catalogue, DefKind};
 use mv_view::View;
 
@@ -58,34 +57,4 @@ pub fn is_seen(catalogue: &Catalogue, view: &View, object: u16) -> bool
         Some(def) => is_kept(&def.kind),
         None => false,
     }
-}
-
-/// Whether this defines an INTEGER variable without dimensions.
-fn is_single(kind: &DefKind) -> bool
-    ensures { result ≡ spec.is_single kind.now }
-{
-    match kind {
-        DefKind::Variable {
-            kind: Kind::Int,
-            dimensions,
-        } => dimensions.slots().is_empty(),
-        _ => false,
-    }
-}
-
-/// Whether an object is an INTEGER variable without dimensions.
-pub fn is_single_at(catalogue: &Catalogue, object: u16) -> bool
-    ensures { result ≡ spec.is_single_at catalogue.now object }
-{
-    match catalogue.def(object) {
-        Some(def) => is_single(&def.kind),
-        None => false,
-    }
-}
-
-/// The key of the one cell of a variable without dimensions.
-pub fn no_slots() -> Coord
-    ensures { result ≡ [] }
-{
-    Coord::of(&[]).unwrap()
 }

@@ -1,12 +1,14 @@
 //! Why a statement is refused before it runs.
 
-ghost use Rattle.std.specs.Prelude.{◌≡◌, IfOk, IsErr, Ok, drop, map};
+ghost use Rattle.std.specs.Prelude.{◌≡◌, All, IfOk, IsErr, Ok, drop};
 ghost use Rattle.dml_kinds.specs.Checking.{IsAnswer};
+ghost use Rattle.ses_value.specs.Expressions.{IsOfALine};
+ghost use Rattle.ses_step.specs.inside.Effects.{AreOver};
 ghost use Rattle.ses_step.specs.Refusing as spec;
 ghost use Rattle.ses_step.specs.SessionLines as line_spec;
 ghost use Rattle.ses_step.specs.Sessions.{Sees};
 
-use crate::command::{Asked, command_of, runs};
+use crate::command::Asked;
 use crate::objects::is_seen;
 use crate::session::Known;
 use aw_body::Body;
@@ -36,7 +38,9 @@ pub fn types_refusal(fault: TypeFault) -> Refusal
 /// What a statement of a session is, which has no locals, or what is wrong with it. No object has a
 /// text yet.
 fn checked(alloc: Global, catalogue: &Catalogue, statement: &Statement) -> Result<Typed, TypeFault>
-    ensures { IsAnswer result (spec.checked catalogue.now statement.now) }
+    ensures answer { IsAnswer result (spec.checked catalogue.now statement.now) }
+    ensures of_a_line { IfOk result (λ typed. All IsOfALine typed.expressions) }
+    ensures over { IfOk result (λ typed. AreOver catalogue.now statement.now typed.expressions) }
 {
     let (known, locals) = (Signatures::new(alloc), List::new(alloc));
     check(alloc, statement, catalogue, &known, &locals)
@@ -51,13 +55,6 @@ fn refused_by(fault: TypeFault) -> Result<Asked, AllocError>
         TypeFault::NoMemory => Err(AllocError),
         fault => Ok(Asked::Refused(types_refusal(fault))),
     }
-}
-
-/// The numbers of objects that stand with their names.
-fn numbers(alloc: Global, objects: &[(Text, u16)]) -> Result<Vec<u16>, AllocError>
-    ensures { IfOk result (λ numbers. numbers.items ≡ map (λ named. named.1) objects.now) }
-{
-    objects.iter().map(|named| named.1).collect(alloc)
 }
 
 /// Whether a statement acquires, gives up or publishes, or changes a dimension that is owned.
@@ -286,16 +283,14 @@ impl Known {
     ) -> Result<Asked, AllocError>
         requires sees { Sees catalogue.now self.now }
         requires checked { spec.checked catalogue.now statement.now ≡ Ok typed.now }
-        ensures asked { IfOk result (λ asked. asked ≡ line_spec.asked_unless catalogue.now
+        requires of_a_line { All IsOfALine typed.now.expressions }
+        requires over { AreOver catalogue.now statement.now typed.now.expressions }
+        ensures { IfOk result (λ asked. asked ≡ line_spec.asked_unless catalogue.now self.now
             (spec.checked_refusal catalogue.now self.now statement.now (Ok typed.now)) statement.now) }
-        ensures ready { IfOk result (λ asked. line_spec.IsReadyFor self.now asked) }
     {
         match self.checked_refusal(catalogue, statement, typed) {
             Some(refusal) => Ok(Asked::Refused(refusal)),
-            None => {
-                let objects = numbers(alloc, typed.objects.as_slice())?;
-                Ok(runs(command_of(alloc, statement, &objects)?))
-            }
+            None => self.effect(alloc, catalogue, statement, typed),
         }
     }
 
@@ -307,9 +302,8 @@ impl Known {
         statement: &Statement,
     ) -> Result<Asked, AllocError>
         requires { Sees catalogue.now self.now }
-        ensures asked { IfOk result (λ asked. asked ≡ line_spec.asked_unless catalogue.now
+        ensures { IfOk result (λ asked. asked ≡ line_spec.asked_unless catalogue.now self.now
             (spec.checked_refusal catalogue.now self.now statement.now (spec.checked catalogue.now statement.now)) statement.now) }
-        ensures ready { IfOk result (λ asked. line_spec.IsReadyFor self.now asked) }
     {
         match checked(alloc, catalogue, statement) {
             Ok(typed) => self.asked_typed(alloc, catalogue, statement, &typed),
@@ -317,12 +311,13 @@ impl Known {
         }
     }
 
-    /// What a statement asks for, or why it is refused before it runs, the first of these: a session
+    /// What a statement asks for, or why it is refused, by the first of these: a session
     /// that isn't attached (15), or for AW ATTACH one that is (16); a session that is attached for
     /// reading alone (23); an unknown name (2), an object of a wrong kind (3) or a name that comes
     /// twice (7); an object that the session owns (20) or doesn't own (19); types (4) or dimensions (5)
-    /// that don't fit, or too much weight (14); a fixed value that its dimension lacks (6); and a
-    /// statement that doesn't run yet (1). The only error is want of memory.
+    /// that don't fit, or too much weight (14); a fixed value that its dimension lacks (6); what the
+    /// run of its expressions refuses (14, 8, 9, 10, 6); and a statement that doesn't run yet (1).
+    /// The only error is want of memory.
     pub(crate) fn asked_by(
         &self,
         alloc: Global,
@@ -330,8 +325,7 @@ impl Known {
         statement: &Statement,
     ) -> Result<Asked, AllocError>
         requires { Sees catalogue.now self.now }
-        ensures asked { IfOk result (λ asked. asked ≡ line_spec.asked_by catalogue.now self.now (Ok statement.now)) }
-        ensures ready { IfOk result (λ asked. line_spec.IsReadyFor self.now asked) }
+        ensures { IfOk result (λ asked. asked ≡ line_spec.asked_by catalogue.now self.now (Ok statement.now)) }
     {
         if let Some(refusal) = self.attachment_refusal(statement) {
             return Ok(Asked::Refused(refusal));

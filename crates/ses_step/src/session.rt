@@ -1,8 +1,5 @@
-ghost use Rattle.std.specs.Prelude.{◌≡◌, ◌≤◌, [], ◌∷◌, length, IfOk, IfSome, IsErr, IsSome, None, Ok, OnErr, OnOk};
+ghost use Rattle.std.specs.Prelude.{◌≡◌, ◌≤◌, [], length, cond, nat_le, IfOk, IfSome, IsErr, None, OnErr, OnOk};
 ghost use Rattle.std.specs.Option.{IsSomeAnd};
-ghost use Rattle.aw_cell.specs.declared.cell.Cell.TheVariants.{Int};
-ghost use Rattle.aw_schema.specs.declared.definition.DefKind.TheVariants.{Variable};
-ghost use Rattle.aw_cell.specs.declared.cell.Kind.TheVariants.{Int as Integer};
 ghost use Rattle.mv_core.specs.declared.entry.Reply.TheVariants.{Acquired, Attached, Committed, Detached, NoMemory, Released, Resynced};
 ghost use Rattle.mv_view.specs.ViewState.{object_of as seen_of};
 ghost use Rattle.mv_view.specs.Rules as rule;
@@ -13,9 +10,10 @@ ghost use Rattle.ses_step.specs.Sessions as spec;
 
 use crate::answer::Answer;
 use crate::command::{Asked, Command};
-use crate::objects::{is_seen, is_single_at, name_at, name_of, no_slots};
+use crate::objects::{name_at, name_of};
 use aw_cell::{Cell, Text};
-use aw_lists::List;
+use aw_dim::Dimension;
+use aw_lists::{Coord, List};
 use aw_schema::Catalogue;
 use dml_lines::{ParseFault, statement_in};
 use dml_tree::Mode;
@@ -81,21 +79,32 @@ fn refused_by(fault: ParseFault) -> Result<Asked, AllocError>
     }
 }
 
-/// Writes the one cell of an INTEGER variable without dimensions.
-#[tactic(auto, using(crate::proofs::OnePage::one_page))]
-fn write_cell(alloc: Global, view: &mut View, object: u16, value: i32) -> Result<(), AllocError>
-    requires { IsSomeAnd (seen_of view.old object) (λ found. found.kind ≡ Variable Integer []) }
-    ensures ok { OnOk result (view.new ≡ rule.written view.old object (([], Int value) ∷ [])) }
+/// Writes cells that an object can hold, and tells whether there was room for them.
+#[tactic(auto, using(crate::proofs::HeldCells::cells_held))]
+fn write_cells(
+    view: &mut View,
+    object: u16,
+    cells: &List<(Coord, Cell)>,
+) -> Result<bool, AllocError>
+    requires { IsSomeAnd (seen_of view.old object) (λ found. spec.AreHeldBy found.kind cells.now) }
+    ensures room { IfOk result (λ room. room ≡ nat_le (rule.private_pages (rule.written view.old object cells.now) object) 65536) }
+    ensures written { IfOk result (λ room. view.new ≡ cond room (rule.written view.old object cells.now) view.old) }
     ensures err { OnErr result (view.new ≡ view.old) }
 {
-    let cells = List::from_slice(alloc, &[(no_slots(), Cell::Int(value))])?;
-    // The body has its definition's form, so that the cell lies on one page.
-    let _ = view.body(object);
-    match view.write(object, &cells) {
-        Ok(()) => Ok(()),
+    match view.write(object, cells) {
+        Ok(()) => Ok(true),
+        Err(ViewFault::Full) => Ok(false),
         Err(ViewFault::NoMemory) => Err(AllocError),
-        Err(ViewFault::Full) => unreachable!(),
     }
+}
+
+/// Gives an owned dimension these values.
+fn maintain_values(view: &mut View, object: u16, values: Dimension) -> Result<(), AllocError>
+    requires { IsSomeAnd (seen_of view.old object) (spec.CanMaintain values) }
+    ensures ok { OnOk result (view.new ≡ rule.maintained view.old object values) }
+    ensures err { OnErr result (view.new ≡ view.old) }
+{
+    view.maintain(object, values)
 }
 
 /// How a session asked to attach.
@@ -141,37 +150,6 @@ impl Known {
         }
     }
 
-    fn located(&self, catalogue: &Catalogue, name: &Text) -> Result<u16, Refusal>
-        requires { spec.Sees catalogue.now self.now }
-        ensures value { result ≡ spec.located catalogue.now self.now name.now }
-        ensures found { IfOk result (λ object. IsSome (spec.seen_in self.now object)) }
-    {
-        let Some(object) = catalogue.find(name) else {
-            return Err(Refusal::no_form());
-        };
-        let Some(view) = &self.view else {
-            return Err(Refusal::not_attached());
-        };
-        if is_seen(catalogue, view, object) {
-            Ok(object)
-        } else {
-            Err(Refusal::no_form())
-        }
-    }
-
-    fn located_cell(&self, catalogue: &Catalogue, name: &Text) -> Result<u16, Refusal>
-        requires { spec.Sees catalogue.now self.now }
-        ensures value { result ≡ spec.located_cell catalogue.now self.now name.now }
-        ensures found { IfOk result (λ object. IsSomeAnd (spec.seen_in self.now object) (λ found. found.kind ≡ Variable Integer [])) }
-    {
-        let object = self.located(catalogue, name)?;
-        if is_single_at(catalogue, object) {
-            Ok(object)
-        } else {
-            Err(Refusal::no_form())
-        }
-    }
-
     fn attach(&self, mode: Mode) -> Begun
         ensures { (result, self.now) ≡ spec.begun [] self.now (Command.Attach mode) }
     {
@@ -181,57 +159,49 @@ impl Known {
         }
     }
 
-    /// Writes the one cell of an INTEGER variable without dimensions.
-    fn put(&mut self, alloc: Global, object: u16, value: i32) -> Result<(), AllocError>
-        requires { IsSomeAnd (spec.seen_in self.old object) (λ found. found.kind ≡ Variable Integer []) }
-        ensures ok { OnOk result (self.new ≡ spec.with_cell self.old object (Int value)) }
+    fn write(
+        &mut self,
+        catalogue: &Catalogue,
+        object: u16,
+        cells: &List<(Coord, Cell)>,
+    ) -> Result<Begun, AllocError>
+        requires { spec.IsReady self.old (Command.Write object cells.now) }
+        ensures begun { IfOk result (λ begun.
+            (begun, self.new) ≡ spec.begun catalogue.now self.old (Command.Write object cells.now)) }
+        ensures err { OnErr result (self.new ≡ self.old) }
+    {
+        let Some(view) = &mut self.view else {
+            return Ok(refused(Refusal::not_attached()));
+        };
+        if write_cells(view, object, cells)? {
+            Ok(Begun::Said(Answer::Done))
+        } else {
+            Ok(refused(Refusal::full(name_of(catalogue, object))))
+        }
+    }
+
+    fn said(&self, cell: Cell) -> Begun
+        ensures { (result, self.now) ≡ spec.begun [] self.now (Command.Show cell) }
+    {
+        match &self.view {
+            None => refused(Refusal::not_attached()),
+            Some(_) => Begun::Said(Answer::Shown(cell)),
+        }
+    }
+
+    fn maintain(&mut self, object: u16, values: &Dimension) -> Result<Begun, AllocError>
+        requires { spec.IsReady self.old (Command.Maintain object values.now) }
+        ensures begun { IfOk result (λ begun.
+            (begun, self.new) ≡ spec.begun [] self.old (Command.Maintain object values.now)) }
         ensures err { OnErr result (self.new ≡ self.old) }
     {
         match &mut self.view {
-            Some(view) => write_cell(alloc, view, object, value),
-            None => unreachable!(),
-        }
-    }
-
-    fn assign(
-        &mut self,
-        alloc: Global,
-        catalogue: &Catalogue,
-        name: &Text,
-        value: i32,
-    ) -> Result<Begun, AllocError>
-        requires { spec.Sees catalogue.now self.old }
-        ensures begun { IfOk result (λ begun.
-            (begun, self.new) ≡ spec.begun catalogue.now self.old (Command.Assign name.now value)) }
-        ensures err { OnErr result (self.new ≡ self.old) }
-    {
-        match self.located_cell(catalogue, name) {
-            Err(refusal) => Ok(refused(refusal)),
-            Ok(object) => {
-                self.put(alloc, object, value)?;
+            None => Ok(refused(Refusal::not_attached())),
+            Some(view) => {
+                let values = values.copied()?;
+                maintain_values(view, object, values)?;
                 Ok(Begun::Said(Answer::Done))
             }
-        }
-    }
-
-    /// Reads the one cell of an INTEGER variable without dimensions.
-    fn cell(&self, object: u16) -> Cell
-        requires { IsSomeAnd (spec.seen_in self.now object) (λ found. found.kind ≡ Variable Integer []) }
-        ensures { result ≡ spec.cell_in self.now object }
-    {
-        match &self.view {
-            Some(view) => view.read(object, &no_slots()),
-            None => unreachable!(),
-        }
-    }
-
-    fn show(&self, catalogue: &Catalogue, name: &Text) -> Begun
-        requires { spec.Sees catalogue.now self.now }
-        ensures { (result, self.now) ≡ spec.begun catalogue.now self.now (Command.Show name.now) }
-    {
-        match self.located_cell(catalogue, name) {
-            Err(refusal) => refused(refusal),
-            Ok(object) => Begun::Said(Answer::Shown(self.cell(object))),
         }
     }
 
@@ -250,8 +220,9 @@ impl Known {
     {
         match own {
             Command::Attach(mode) => Ok(self.attach(*mode)),
-            Command::Assign { name, value } => self.assign(alloc, catalogue, name, *value),
-            Command::Show(name) => Ok(self.show(catalogue, name)),
+            Command::Write { object, cells } => self.write(catalogue, *object, cells),
+            Command::Show(cell) => Ok(self.said(*cell)),
+            Command::Maintain { object, values } => self.maintain(*object, values),
             Command::Detach => Ok(self.detach()),
             Command::Acquire { keep, fresh, same } => {
                 self.acquire(alloc, catalogue, keep, fresh, same)
@@ -275,8 +246,7 @@ impl Known {
         requires sees { spec.Sees catalogue.now self.now }
         requires short { length line.now ≤ 4096 }
         requires within { from ≤ length line.now }
-        ensures asked { IfOk result (λ asked. asked ≡ line_spec.asked catalogue.now self.now line.now from) }
-        ensures ready { IfOk result (λ asked. line_spec.IsReadyFor self.now asked) }
+        ensures { IfOk result (λ asked. asked ≡ line_spec.asked catalogue.now self.now line.now from) }
     {
         match statement_in(alloc, line, from) {
             Ok(statement) => self.asked_by(alloc, catalogue, &statement),
@@ -443,7 +413,10 @@ impl Session {
     /// unknown name (2), an object of a wrong kind (3), a name that comes twice (7); an object that the
     /// session doesn't own (19) or owns (20); types (4) and dimensions (5) that don't fit, and too much
     /// weight (14); a fixed value that its dimension lacks (6); and then what doesn't run yet, with 1
-    /// and column 1. The only error is want of memory, which leaves the session as it was.
+    /// and column 1. The expressions of SHOW and of an assignment are evaluated: too many cells are
+    /// refused (14), a dimension without values (8), a result that is out of range (9), a division by
+    /// zero (10), a text that a relation's target doesn't have (6), and cells for which there are no
+    /// more pages (22). The only error is want of memory, which leaves the session as it was.
     pub fn begin(
         &mut self,
         alloc: Global,

@@ -7,7 +7,7 @@ use aw_schema::{Catalogue, Def, DefKind};
 use mv_core::Reply;
 use ses_report::{Detail, Refusal};
 use ses_step::{Answer, Begun, Session};
-use std::alloc::Global;
+use std::alloc::{AllocError, Global};
 use std::test::Fail;
 
 fn text(bytes: &[u8]) -> Result<Text, Fail> {
@@ -52,17 +52,25 @@ fn is_refused(
     }
 }
 
-// Whether a session's first line asks for something, or is refused since it isn't attached.
+// Whether something is asked for, or refused for another cause than that the session isn't attached.
+fn is_asked(begun: &Result<Begun, AllocError>) -> Option<bool> {
+    match begun {
+        Ok(Begun::Ask(_)) => Some(true),
+        Ok(Begun::Said(Answer::Refused(refusal))) => Some(refusal.number != 15),
+        _ => None,
+    }
+}
+
+// The same of a session's first line.
 fn asks(alloc: Global, catalogue: &Catalogue, line: &[u8]) -> Option<bool>
     requires { length line.now ≤ 4096 }
 {
     let mut session = Session::new(0);
     let begun = session.begin(alloc, catalogue, line, 0);
-    match &begun {
-        Ok(Begun::Ask(_)) => Some(true),
-        Ok(Begun::Said(Answer::Refused(refusal))) => Some(refusal.number != 15),
-        _ => None,
-    }
+    drop(session);
+    let asked = is_asked(&begun);
+    drop(begun);
+    asked
 }
 
 #[test]

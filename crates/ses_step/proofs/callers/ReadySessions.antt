@@ -23,8 +23,9 @@ given-owned s (Some (command.Resync objects)) ready = none-owned s.view
 given-owned s (Some (command.Revert objects)) ready = none-owned s.view
 given-owned s (Some (command.Update objects)) ready = none-owned s.view
 given-owned s (Some command.Commit) ready = none-owned s.view
-given-owned s (Some (command.Assign name value)) ready = none-owned s.view
-given-owned s (Some (command.Show name)) ready = none-owned s.view
+given-owned s (Some (command.Write object cells)) ready = none-owned s.view
+given-owned s (Some (command.Show cell)) ready = none-owned s.view
+given-owned s (Some (command.Maintain object values)) ready = none-owned s.view
 
 pub released_allowed : (definitions : List Def) (s : Session) → IfSome s.asked (IsReady s.known) → Allows definitions s Released
 released_allowed definitions s ready = given-owned s.known s.asked ready

@@ -1,8 +1,8 @@
 -- What a session does keeps that its view is of the definitions.
-use Rattle.std.specs.Prelude.{ℕ, ◌≡◌, ◌==◌, List, [], ◌∷◌, Option, Some, None, IfSome, is_some}
+use Rattle.std.specs.Prelude.{ℕ, ◌≡◌, ◌==◌, List, Option, Some, None, IfSome, is_some}
 use Rattle.std.specs.Option.{option_map}
 use Rattle.std.proofs.Common.{◌∙◌, ap, sym, refl, subst, arith}
-use Rattle.aw_cell.specs.declared.cell.Cell.TheVariants.{Int}
+use Rattle.aw_dim.specs.DimensionState.{DimensionState}
 use Rattle.aw_schema.specs.declared.definition.Def.{Def}
 use Rattle.aw_var.specs.CellMap.{Cells}
 use Rattle.aw_body.specs.declared.change.Fresh.{Fresh}
@@ -68,6 +68,10 @@ module _ (definitions : List Def) where
   sees-written object cells view sees =
       kinds-each 0 (only object (rule.with_cells cells)) view.objects (λ at found. kind-cond (object == at) (rule.with_cells cells found) found refl) ∙ sees
 
+  sees-maintained : (object : ℕ) (values : DimensionState) (view : ViewState) → IsOfThem view → IsOfThem (rule.maintained view object values)
+  sees-maintained object values view sees =
+      kinds-each 0 (only object (rule.with_values values)) view.objects (λ at found. kind-cond (object == at) (rule.with_values values found) found refl) ∙ sees
+
   sees-updated : (objects : List ℕ) (view : ViewState) → IsOfThem view → IsOfThem (rule.updated view objects)
   sees-updated objects view sees =
       kinds-each 0 (listed objects rule.staging) view.objects (λ at found. kind-cond (names objects at) (rule.staging found) found refl) ∙ sees
@@ -97,13 +101,16 @@ module _ (definitions : List Def) where
 pub sees-begun : (definitions : List Def) (s : Known) (own : Command) → Sees definitions s → Sees definitions (begun definitions s own).1
 sees-begun definitions s own sees =
     begun-cases (λ after. Sees definitions after.1) definitions s (λ b. sees)
-    (λ name value object is. sees-mapped definitions (λ v. rule.written v object (([], Int value) ∷ [])) s.view (sees-written definitions object (([], Int value) ∷ [])) sees)
-    (λ view is. let of_them : kinds_of view ≡ kept_kinds definitions = subst (λ (v : Option ViewState). IfSome v (λ one. kinds_of one ≡ kept_kinds definitions)) is sees in
-    sharing-cases (λ after. Sees definitions after.1) s view (λ b. sees)
-    (λ objects. sees-released definitions objects view of_them)
-    (λ objects. sees-reverted definitions objects view of_them)
-    (λ objects. sees-updated definitions objects view of_them))
+    (λ view is object cells room. sees-written definitions object cells view (of_them view is))
+    (λ view is. sharing-cases (λ after. Sees definitions after.1) s view (λ b. sees)
+    (λ objects. sees-released definitions objects view (of_them view is))
+    (λ objects. sees-reverted definitions objects view (of_them view is))
+    (λ objects. sees-updated definitions objects view (of_them view is))
+    (λ object values. sees-maintained definitions object values view (of_them view is)))
     own
+  where
+    of_them : (view : ViewState) → s.view ≡ Some view → kinds_of view ≡ kept_kinds definitions
+    of_them view is = subst (λ (v : Option ViewState). IfSome v (λ one. kinds_of one ≡ kept_kinds definitions)) is sees
 
 -- the session that waits knows what it knew
 waiting-knows : (own : Command) (b : Begun) (s : Known) → (kept_waiting own (b, s)).1.known ≡ s
