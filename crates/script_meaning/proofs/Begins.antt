@@ -1,9 +1,10 @@
 -- What a command of a session begins with: a refusal of the session's own, an entry, `ok` with what it makes of the view, or a cell.
-use Rattle.std.specs.Prelude.{◌≡◌, ◌⊎◌, ℕ, ℤ, Bool, true, false, cond, map, List, [], ◌∷◌, Option, None, Some, Result, Ok, Err, refl}
+use Rattle.std.specs.Prelude.{◌≡◌, ◌⊎◌, ℕ, Bool, true, false, cond, nat_le, map, List, [], ◌∷◌, Option, None, Some, refl}
 use Rattle.std.proofs.Common.{◌∙◌, ap, sym, subst, inl, inr}
-use Rattle.aw_cell.specs.declared.cell.Cell.TheVariants.{Int}
+use Rattle.aw_cell.specs.declared.cell.Cell.{Cell}
+use Rattle.aw_dim.specs.DimensionState.{DimensionState}
 use Rattle.aw_schema.specs.declared.definition.Def.{Def}
-use Rattle.aw_schema.specs.Definitions as definition
+use Rattle.aw_var.specs.CellMap.{Cells}
 use Rattle.aw_body.specs.declared.change.Change.{Change}
 use Rattle.aw_body.specs.declared.change.Seen.{Seen}
 use Rattle.mv_core.specs.declared.entry.Entry.{Entry}
@@ -12,18 +13,18 @@ use Rattle.mv_view.specs.Rules as rule
 use Rattle.mv_view.specs.Laws.{unstaged_in}
 use Rattle.mv_view.specs.ViewState.{ObjectView, ViewState, object_of, owned_objects}
 use Rattle.ses_report.specs.declared.refusal.Refusal.{Refusal}
-use Rattle.ses_report.specs.Refusals.{no_form, not_attached, already_attached}
+use Rattle.ses_report.specs.Refusals.{not_attached, already_attached, full}
 use Rattle.ses_step.specs.declared.answer.Answer.TheVariants.{Done, Shown, Refused}
 use Rattle.ses_step.specs.declared.command.Command.{Command}
 use Rattle.ses_step.specs.declared.command.Command.TheVariants as command
 use Rattle.ses_step.specs.declared.session.Begun.{Begun}
 use Rattle.ses_step.specs.declared.session.Begun.TheVariants.{Said, Ask}
 use Rattle.ses_step.specs.declared.session.Known.{Known as Session}
-use Rattle.ses_step.specs.Sessions.{begun, sharing, located, located_cell, number_in, generation_in, is_single_at, cell_in, with_cell, seen_objects, or_all, leaving, commit_asked, release_asked}
+use Rattle.ses_step.specs.Sessions.{begun, sharing, number_in, generation_in, name_of, seen_objects, or_all, leaving, commit_asked, release_asked, write_asked}
 
 -- a refusal that needs no reply
 abbrev pub IsOwn : Refusal → Type 0
-IsOwn refusal = (refusal ≡ no_form) ⊎ ((refusal ≡ not_attached) ⊎ (refusal ≡ already_attached))
+IsOwn refusal = (refusal ≡ not_attached) ⊎ ((refusal ≡ already_attached) ⊎ ((name : List ℕ) × (refusal ≡ full name)))
 
 -- ---- what a session asks
 
@@ -66,58 +67,9 @@ AskedOf s (command.Release objects) asked = AsksRelease s objects asked
 AskedOf s command.Commit asked = AsksBy s (λ view. entry.Commit s.who (rule.changes view) (leaving view)) asked
 AskedOf s (command.Revert objects) asked = ⊥
 AskedOf s (command.Update objects) asked = ⊥
-AskedOf s (command.Assign name value) asked = ⊥
-AskedOf s (command.Show name) asked = ⊥
-
--- ---- the object that a command names
-
-pub located-cases : (P : Result ℕ Refusal → Type 0) (definitions : List Def) (s : Session) (name : List ℕ) →
-    ((refusal : Refusal) → IsOwn refusal → P (Err refusal)) →
-    ((object : ℕ) → definition.object_of definitions name ≡ Some object → Sees s object → P (Ok object)) →
-    P (located definitions s name)
-located-cases P definitions s name refused there = by_place (definition.object_of definitions name) refl
-  where
-    by_found : (object : ℕ) → definition.object_of definitions name ≡ Some object → (view : ViewState) → s.view ≡ Some view → (found : Option ObjectView) → object_of view object ≡ found → P (elim found [ None ↦ Err no_form | Some one ↦ Ok object ])
-    by_found object place view attached None none = refused no_form (inl refl)
-    by_found object place view attached (Some found) seen = there object place (record { view = view; found = found; attached = attached; seen = seen })
-
-    by_view : (object : ℕ) → definition.object_of definitions name ≡ Some object → (view : Option ViewState) → s.view ≡ view → P (elim view [ None ↦ Err not_attached | Some one ↦ elim (object_of one object) [ None ↦ Err no_form | Some found ↦ Ok object ] ])
-    by_view object place None none = refused not_attached (inr (inl refl))
-    by_view object place (Some view) attached = by_found object place view attached (object_of view object) refl
-
-    by_place : (place : Option ℕ) → definition.object_of definitions name ≡ place → P (elim place [ None ↦ Err no_form | Some object ↦ elim s.view [ None ↦ Err not_attached | Some view ↦ elim (object_of view object) [ None ↦ Err no_form | Some found ↦ Ok object ] ] ])
-    by_place None none = refused no_form (inl refl)
-    by_place (Some object) place = by_view object place s.view refl
-
--- by what is looked up
-abbrev pub located_at : ℕ → Option ViewState → Result ℕ Refusal
-located_at object view = elim view [ None ↦ Err not_attached | Some one ↦ elim (object_of one object) [ None ↦ Err no_form | Some found ↦ Ok object ] ]
-
-abbrev located_in : ℕ → Option ObjectView → Result ℕ Refusal
-located_in object found = elim found [ None ↦ Err no_form | Some one ↦ Ok object ]
-
-abbrev located_of : Session → Option ℕ → Result ℕ Refusal
-located_of s place = elim place [ None ↦ Err no_form | Some object ↦ located_at object s.view ]
-
-pub located-defined : (definitions : List Def) (s : Session) (name : List ℕ) (object : ℕ) → definition.object_of definitions name ≡ Some object → located definitions s name ≡ located_at object s.view
-located-defined definitions s name object place = ap (located_of s) place
-
-pub located-seen : (definitions : List Def) (s : Session) (name : List ℕ) (object : ℕ) → definition.object_of definitions name ≡ Some object → Sees s object → located definitions s name ≡ Ok object
-located-seen definitions s name object place it =
-    located-defined definitions s name object place ∙ ap (located_at object) it.attached ∙ ap (located_in object) it.seen
-
--- the variable whose one cell a command names
-pub located_cell-cases : (P : Result ℕ Refusal → Type 0) (definitions : List Def) (s : Session) (name : List ℕ) →
-    ((refusal : Refusal) → IsOwn refusal → P (Err refusal)) →
-    ((object : ℕ) → definition.object_of definitions name ≡ Some object → is_single_at definitions object ≡ true → Sees s object → P (Ok object)) →
-    P (located_cell definitions s name)
-located_cell-cases P definitions s name refused there =
-    located-cases (λ r. P (elim r [ Err refusal ↦ Err refusal | Ok object ↦ cond (is_single_at definitions object) (Ok object) (Err no_form) ])) definitions s name refused
-    (λ object place it. by_single object place it (is_single_at definitions object) refl)
-  where
-    by_single : (object : ℕ) → definition.object_of definitions name ≡ Some object → Sees s object → (single : Bool) → is_single_at definitions object ≡ single → P (cond single (Ok object) (Err no_form))
-    by_single object place it true single = there object place single it
-    by_single object place it false other = refused no_form (inl refl)
+AskedOf s (command.Write object cells) asked = ⊥
+AskedOf s (command.Maintain object values) asked = ⊥
+AskedOf s (command.Show cell) asked = ⊥
 
 -- the number of the generation that a session has of an object that it sees
 pub number-seen : (s : Session) (object : ℕ) (it : Sees s object) → number_in s object ≡ it.found.number
@@ -127,28 +79,16 @@ number-seen s object it =
 -- ---- the command
 
 module _ (definitions : List Def) (s : Session) where
-  -- an assignment to an INTEGER variable without dimensions that the session sees
-  pub record Assigns (own : Command) (name : List ℕ) (value : ℤ) (object : ℕ) : Type 0 where
-    pub is : own ≡ command.Assign name value
-    pub place : definition.object_of definitions name ≡ Some object
-    pub single : is_single_at definitions object ≡ true
-    pub sees : Sees s object
-
-  -- a SHOW of one
-  pub record Shows (own : Command) (name : List ℕ) (object : ℕ) : Type 0 where
-    pub is : own ≡ command.Show name
-    pub place : definition.object_of definitions name ≡ Some object
-    pub single : is_single_at definitions object ≡ true
-    pub sees : Sees s object
-
   -- what is to be shown of each kind of beginning
   pub record Begins (own : Command) (P : Begun × Session → Type 0) : Type 0 where
     pub refused : (refusal : Refusal) → IsOwn refusal → P (Said (Refused refusal), s)
     pub asks : (asked : Entry) → AskedOf s own asked → P (Ask asked, s)
     -- a COMMIT of nothing
     pub nothing : (view : ViewState) → own ≡ command.Commit → s.view ≡ Some view → rule.changes view ≡ [] → leaving view ≡ [] → P (Said Done, s)
-    pub assigned : (name : List ℕ) (value : ℤ) (object : ℕ) → Assigns own name value object → P (Said Done, with_cell s object (Int value))
-    pub shown : (name : List ℕ) (object : ℕ) → Shows own name object → P (Said (Shown (cell_in s object)), s)
+    -- cells that don't fill their object
+    pub written : (view : ViewState) (object : ℕ) (cells : Cells) → own ≡ command.Write object cells → s.view ≡ Some view → P (Said Done, record s { view = Some (rule.written view object cells) })
+    pub maintained : (view : ViewState) (object : ℕ) (values : DimensionState) → own ≡ command.Maintain object values → s.view ≡ Some view → P (Said Done, record s { view = Some (rule.maintained view object values) })
+    pub shown : (view : ViewState) (cell : Cell) → own ≡ command.Show cell → s.view ≡ Some view → P (Said (Shown cell), s)
     -- a RELEASE of objects of which something is staged
     pub released : (view : ViewState) (objects : List ℕ) → own ≡ command.Release objects → s.view ≡ Some view → unstaged_in view objects ≡ [] → P (Said Done, record s { view = Some (rule.released view objects) })
     pub reverted : (view : ViewState) (objects : List ℕ) → own ≡ command.Revert objects → s.view ≡ Some view → P (Said Done, record s { view = Some (rule.reverted view (or_all (seen_objects view) objects)) })
@@ -166,9 +106,13 @@ module _ (definitions : List Def) (s : Session) where
   releases P view objects attached each (object ∷ unstaged) left =
       each.asks (entry.Release s.who (object ∷ unstaged)) (record { view = view; object = object; unstaged = unstaged; attached = attached; left = left; is = refl })
 
+  writes : (P : Begun × Session → Type 0) (view : ViewState) (object : ℕ) (cells : Cells) → s.view ≡ Some view → Begins (command.Write object cells) P → (few : Bool) → P (cond few (Said Done, record s { view = Some (rule.written view object cells) }) (Said (Refused (full (name_of definitions object))), s))
+  writes P view object cells attached each true = each.written view object cells refl attached
+  writes P view object cells attached each false = each.refused (full (name_of definitions object)) (inr (inr (name_of definitions object, refl)))
+
   -- one that wants an attached session
   if_attached : (P : Begun × Session → Type 0) (own : Command) → ((refusal : Refusal) → IsOwn refusal → P (Said (Refused refusal), s)) → ((view : ViewState) → s.view ≡ Some view → P (sharing s view own)) → (view : Option ViewState) → s.view ≡ view → P (elim view [ None ↦ (Said (Refused not_attached), s) | Some view ↦ sharing s view own ])
-  if_attached P own refused shares None none = refused not_attached (inr (inl refl))
+  if_attached P own refused shares None none = refused not_attached (inl refl)
   if_attached P own refused shares (Some view) attached = shares view attached
 
   pub begins : (own : Command) (P : Begun × Session → Type 0) → Begins own P → P (begun definitions s own)
@@ -176,13 +120,14 @@ module _ (definitions : List Def) (s : Session) where
     where
       by_view : (view : Option ViewState) → s.view ≡ view → P (elim view [ None ↦ (Ask (entry.Attach s.who), s) | Some view ↦ (Said (Refused already_attached), s) ])
       by_view None none = each.asks (entry.Attach s.who) (record { unattached = none; is = refl })
-      by_view (Some view) attached = each.refused already_attached (inr (inr refl))
-  begins (command.Assign name value) P each =
-      located_cell-cases (λ r. P (elim r [ Err refusal ↦ (Said (Refused refusal), s) | Ok object ↦ (Said Done, with_cell s object (Int value)) ])) definitions s name each.refused
-      (λ object place single it. each.assigned name value object (record { is = refl; place = place; single = single; sees = it }))
-  begins (command.Show name) P each =
-      located_cell-cases (λ r. P (elim r [ Err refusal ↦ (Said (Refused refusal), s) | Ok object ↦ (Said (Shown (cell_in s object)), s) ])) definitions s name each.refused
-      (λ object place single it. each.shown name object (record { is = refl; place = place; single = single; sees = it }))
+      by_view (Some view) attached = each.refused already_attached (inr (inl refl))
+  begins (command.Write object cells) P each = by_view s.view refl
+    where
+      by_view : (view : Option ViewState) → s.view ≡ view → P (elim view [ None ↦ (Said (Refused not_attached), s) | Some view ↦ write_asked definitions s view object cells ])
+      by_view None none = each.refused not_attached (inl refl)
+      by_view (Some view) attached = writes P view object cells attached each (nat_le (rule.private_pages (rule.written view object cells) object) 65536)
+  begins (command.Maintain object values) P each = if_attached P (command.Maintain object values) each.refused (λ view attached. each.maintained view object values refl attached) s.view refl
+  begins (command.Show cell) P each = if_attached P (command.Show cell) each.refused (λ view attached. each.shown view cell refl attached) s.view refl
   begins command.Detach P each = if_attached P command.Detach each.refused (λ view attached. each.asks (entry.Detach s.who) (record { view = view; attached = attached; is = refl })) s.view refl
   begins (command.Acquire keep fresh same) P each =
       if_attached P (command.Acquire keep fresh same) each.refused (λ view attached. each.asks (entry.Acquire s.who (generations_in s keep) fresh (generations_in s same)) (record { view = view; attached = attached; is = refl })) s.view refl
@@ -200,8 +145,9 @@ module _ (definitions : List Def) (s : Session) where
         refused = λ refusal is asked never. cc;
         asks = λ it known asked is. (refl, subst (AskedOf s own) (same-asked it asked is) known);
         nothing = λ view is attached none left asked never. cc;
-        assigned = λ name value object it asked never. cc;
-        shown = λ name object it asked never. cc;
+        written = λ view object cells is attached asked never. cc;
+        maintained = λ view object values is attached asked never. cc;
+        shown = λ view cell is attached asked never. cc;
         released = λ view objects is attached none asked never. cc;
         reverted = λ view objects is attached asked never. cc;
         updated = λ view objects is attached asked never. cc;

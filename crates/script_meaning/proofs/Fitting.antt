@@ -1,39 +1,35 @@
 -- What keeps that the view of a session fits: its own commands, what follows a reply, and what other sessions do.
-use Rattle.std.specs.Prelude.{◌≡◌, ◌≢◌, ◌&&◌, ◌+◌, ℕ, ℤ, negsuc, min, Bool, true, false, not, cond, List, [], ◌∷◌, All, Option, Some, None, IfSome, slice_get, refl}
+use Rattle.std.specs.Prelude.{◌≡◌, ◌≢◌, ◌≤◌, ◌+◌, ℕ, ℤ, negsuc, min, Bool, true, false, not, cond, [], ◌∷◌, All, Option, Some, None, IfSome, refl}
 use Rattle.std.specs.Option.{option_map}
 use Rattle.std.specs.Ordering.{int_eq}
-use Rattle.std.proofs.Common.{◌∙◌, ap, sym, subst, arith}
+use Rattle.std.proofs.Common.{sym, subst, arith}
 use Rattle.std.proofs.lemmas.Bool.{and_from}
 use Rattle.std.proofs.lemmas.Bool.Decides.{Decides-int_eq}
-use Rattle.std.proofs.lemmas.List.Elements.{All-nil, All-cons, All-head, All-tail}
+use Rattle.std.proofs.lemmas.List.Elements.{All-head, All-tail}
 use Rattle.aw_cell.specs.declared.cell.Cell.{Cell}
 use Rattle.aw_cell.specs.declared.cell.Cell.TheVariants.{Na, Num, Int, Text, Bool as Truth, Slot}
-use Rattle.aw_cell.specs.declared.cell.Kind.TheVariants as cells
-use Rattle.aw_schema.specs.declared.definition.Def.{Def}
+use Rattle.aw_dim.specs.DimensionState.{DimensionState}
 use Rattle.aw_schema.specs.declared.definition.DefKind.{DefKind}
 use Rattle.aw_schema.specs.declared.definition.DefKind.TheVariants.{Dimension, Relation, Valueset, Variable, Formula, Program, Aggmap}
-use Rattle.aw_schema.specs.Definitions.{is_kept}
 use Rattle.aw_var.specs.CellMap.{Cells}
 use Rattle.aw_body.specs.declared.body.Body.{Body}
 use Rattle.aw_body.specs.declared.body.Body.TheVariants.{Dim, Rel, Set, Var}
 use Rattle.aw_body.specs.declared.patch.BodyPatch.TheVariants.{Cells as CellPatch}
 use Rattle.aw_body.specs.Bodies.{IsBodyOf}
 use Rattle.aw_body.specs.BodyPatches.{applied}
-use Rattle.aw_body.specs.Fitting.{is_recorded, fits}
-use Rattle.aw_codec.specs.Records.{IsSpelled, IsKeyedCell, IsPatch}
-use Rattle.mv_view.specs.Each.{object_in}
+use Rattle.aw_body.specs.Fitting.{is_recorded}
+use Rattle.aw_codec.specs.Records.{IsSpelled, IsKeyedCell}
 use Rattle.mv_view.specs.Recording.{CanBeRecorded, are_recorded}
 use Rattle.mv_view.specs.Rules as rule
-use Rattle.mv_view.specs.ViewState.{ObjectView, ViewState, IsSeen, object_of, each, kept_kinds}
+use Rattle.mv_view.specs.ViewState.{ObjectView, ViewState, IsSeen, object_of, each}
 use Rattle.mv_view.specs.Fit as seen
 use Rattle.mv_view.proofs.callers.Each.{object_in-each}
 use Rattle.aw_body.specs.declared.change.Fresh.{Fresh}
 use Rattle.aw_body.specs.KeptBodies.{bodies_of}
 use Rattle.mv_core.specs.Workspace.{Workspace}
-use Rattle.ses_step.specs.Sessions.{is_single, is_single_at}
+use Rattle.ses_step.specs.Sessions.{AreHeldBy, CanMaintain, next_of}
 use Rattle.script_meaning.specs.Fit.{CanBeWritten, CanBeCommitted, IsKeptOf, ViewFits}
-use Rattle.script_meaning.proofs.KeptKinds.{kept-here, here-kept}
-use Rattle.script_meaning.proofs.StoredBodies.{kept-applied}
+use Rattle.script_meaning.proofs.WrittenCells.{held-kept}
 
 -- ---- bodies that can be recorded
 
@@ -183,62 +179,44 @@ good-committed found dimension it =
     let committing = good-if (rule.is_staged found) (moved_on found) found (λ staged. good-moved_on found dimension it) it in
     good-if found.owned (rule.leaving_now (rule.committing found)) found (λ own. good-if (rule.committing found).leaving (rule.giving_up (rule.committing found)) (rule.committing found) (λ leaving. good-giving_up (rule.committing found) committing) committing) it
 
--- ---- an assignment
+-- ---- an assignment, MAINTAIN
 
--- the one cell of an INTEGER variable without dimensions
-abbrev pub one_cell : ℤ → Cells
-one_cell value = ([], Int value) ∷ []
-
-one-patch : (value : ℤ) → IsSpelled (Int value) → IsPatch (CellPatch (one_cell value))
-one-patch value spelled =
-    (and_from (is_recorded (Int value) && true) true (and_from (is_recorded (Int value)) true (spelled-recorded (Int value) spelled) refl) refl, omega arith, All-cons IsKeyedCell ([], Int value) [] (All-nil _, omega arith, spelled) (All-nil IsKeyedCell))
-
-one-fits : (value : ℤ) (body : Body) → IsSpelled (Int value) → fits (CellPatch (one_cell value)) (Variable cells.Int []) body ≡ true
-one-fits value body spelled = and_from (is_recorded (Int value) && true) true (and_from (is_recorded (Int value)) true (spelled-recorded (Int value) spelled) refl) refl
-
-pub good-written : (found : ObjectView) (value : ℤ) → found.kind ≡ Variable cells.Int [] → IsSpelled (Int value) → IsGood found → IsGood (rule.with_cells (one_cell value) found)
-good-written found value single spelled it =
-    let fit : fits (CellPatch (one_cell value)) found.kind found.private ≡ true = ap (λ (kind : DefKind). fits (CellPatch (one_cell value)) kind found.private) single ∙ one-fits value found.private spelled in
-    let new = kept-applied found.kind found.private (CellPatch (one_cell value)) (record { form = it.forms.private; written = it.commits.private.0 }) fit (one-patch value spelled) in
+-- cells that the object can hold
+pub good-written : (found : ObjectView) (cells : Cells) → AreHeldBy found.kind cells → IsGood found → IsGood (rule.with_cells cells found)
+good-written found cells held it =
+    let new = held-kept found.kind found.private cells held (record { form = it.forms.private; written = it.commits.private.0 }) in
     record {
       forms = record { base = it.forms.base; staged = it.forms.staged; private = new.form };
       commits = record {
         base = it.commits.base;
         staged = it.commits.staged;
-        private = (new.written, recorded-over found.kind found.base (applied found.private (CellPatch (one_cell value))) it.forms.base.form new.form.form new.written (λ dimension. other (sym single ∙ dimension)));
+        private = (new.written, recorded-over found.kind found.base (applied found.private (CellPatch cells)) it.forms.base.form new.form.form new.written (λ dimension. never dimension));
       };
     }
   where
-    other : {A : Type 0} → Variable cells.Int [] ≡ Dimension → A
-    other is = cc
+    never : {A : Type 0} → found.kind ≡ Dimension → A
+    never dimension = absurd (subst (λ (kind : DefKind). AreHeldBy kind cells) dimension held)
 
-single-variable : (kind : DefKind) → is_single kind ≡ true → kind ≡ Variable cells.Int []
-single-variable Dimension is = cc
-single-variable (Relation target base) is = cc
-single-variable (Valueset dimension) is = cc
-single-variable (Variable cells.Num dimensions) is = cc
-single-variable (Variable cells.Int []) is = refl
-single-variable (Variable cells.Int (dimension ∷ dimensions)) is = cc
-single-variable (Variable cells.Text dimensions) is = cc
-single-variable (Variable cells.Bool dimensions) is = cc
-single-variable (Variable cells.Slot dimensions) is = cc
-single-variable (Formula text) is = cc
-single-variable (Program text) is = cc
-single-variable (Aggmap text) is = cc
+-- values that give no slot again can be recorded, where those before them can
+values-recorded : (base private : Body) (values : DimensionState) → IsBodyOf Dimension base → IsBodyOf Dimension private → CanBeRecorded base private → next_of private ≤ values.next → CanBeRecorded base (Dim values)
+values-recorded (Dim older) (Dim newer) values base_is private_is can next = omega (arith, can, next)
+values-recorded (Dim older) (Rel contents) values base_is private_is can next = absurd private_is
+values-recorded (Dim older) (Set slots) values base_is private_is can next = absurd private_is
+values-recorded (Dim older) (Var contents) values base_is private_is can next = absurd private_is
+values-recorded (Rel contents) private values base_is private_is can next = absurd base_is
+values-recorded (Set slots) private values base_is private_is can next = absurd base_is
+values-recorded (Var contents) private values base_is private_is can next = absurd base_is
 
--- what is assigned is such a variable
-pub single-kind : (definitions : List Def) (object : ℕ) (kind : DefKind) → is_single_at definitions object ≡ true → object_in (kept_kinds definitions) object ≡ Some kind → kind ≡ Variable cells.Int []
-single-kind definitions object kind single kept =
-    let it = kept-here definitions object kind kept in
-    single-variable kind (sym (ap (λ (found : Option Def). elim found as (λ _. Bool) [ None ↦ false | Some def ↦ is_single def.kind ]) it.there ∙ ap is_single it.kind_is) ∙ single)
-
--- such a variable is kept
-pub single-kept : (definitions : List Def) (object : ℕ) → is_single_at definitions object ≡ true → (kind : DefKind) × (object_in (kept_kinds definitions) object ≡ Some kind)
-single-kept definitions object single = by_def (slice_get definitions object) refl single
-  where
-    by_def : (found : Option Def) → slice_get definitions object ≡ found → elim found as (λ _. Bool) [ None ↦ false | Some def ↦ is_single def.kind ] ≡ true → (kind : DefKind) × (object_in (kept_kinds definitions) object ≡ Some kind)
-    by_def None is single = cc
-    by_def (Some def) is single = (def.kind, here-kept definitions object def is (ap is_kept (single-variable def.kind single)))
+-- other values of a dimension
+pub good-maintained : (found : ObjectView) (values : DimensionState) → CanMaintain values found → IsGood found → IsGood (rule.with_values values found)
+good-maintained found values can it =
+    let form : IsBodyOf found.kind (Dim values) = subst (λ (kind : DefKind). IsBodyOf kind (Dim values)) (sym can.kind) tt in
+    let of_kind : (body : Body) → IsBodyOf found.kind body → IsBodyOf Dimension body = λ body is. subst (λ (kind : DefKind). IsBodyOf kind body) can.kind is in
+    let recorded = values-recorded found.base found.private values (of_kind found.base it.forms.base.form) (of_kind found.private it.forms.private.form) it.commits.private.1 can.next in
+    record {
+      forms = record { base = it.forms.base; staged = record { form = form; valid = can.valid }; private = record { form = form; valid = can.valid } };
+      commits = record { base = it.commits.base; staged = (tt, recorded); private = (tt, recorded) };
+    }
 
 -- ---- all objects
 

@@ -1,11 +1,10 @@
 -- The views of each session fit what is committed and owned, by the laws of one session.
-use Rattle.std.specs.Prelude.{◌≡◌, ◌≢◌, ◌<◌, ◌≤◌, ◌==◌, ◌⊎◌, ◌↔◌, ℕ, ℤ, Bool, true, false, cond, List, [], ◌∷◌, All, Option, Some, None, IsSome, Result, Ok, Err, refl}
-use Rattle.std.specs.Option.{ForSome, option_map}
+use Rattle.std.specs.Prelude.{◌≡◌, ◌≢◌, ◌<◌, ◌≤◌, ◌==◌, ◌⊎◌, ◌↔◌, ℕ, Bool, true, false, cond, List, [], ◌∷◌, All, Option, Some, None, IsSome, Result, Ok, Err, refl}
+use Rattle.std.specs.Option.{ForSome, option_map, IsSomeAnd}
 use Rattle.std.specs.List.{list_all}
 use Rattle.std.proofs.Common.{◌∙◌, ap, sym, subst, inl, inr, ⊎_elim, arith}
 use Rattle.std.proofs.lemmas.Bool.{eqb-true, ltb-false, true≢false}
 use Rattle.std.proofs.lemmas.Option.{none-some, same_Some}
-use Rattle.aw_cell.specs.declared.cell.Cell.TheVariants.{Int}
 use Rattle.aw_schema.specs.declared.definition.Def.{Def}
 use Rattle.aw_body.specs.declared.body.Body.{Body}
 use Rattle.aw_body.specs.declared.change.Change.{Change}
@@ -43,7 +42,8 @@ use Rattle.ses_step.specs.declared.command.Asked.TheVariants.{Runs, Refused}
 use Rattle.ses_step.specs.declared.session.Known.{Known as Session}
 use Rattle.ses_step.specs.declared.session.Session.{Session as Waiting}
 use Rattle.ses_step.specs.SessionLines.{asked}
-use Rattle.ses_step.specs.Sessions.{waiting, kept_waiting, finished, with_cell, seen_objects, or_all, leaving, IsReady}
+use Rattle.ses_step.proofs.callers.ReadyLines.{IsPermitted}
+use Rattle.ses_step.specs.Sessions.{waiting, kept_waiting, finished, seen_objects, or_all, leaving, AreHeldBy, CanMaintain, IsReady}
 use Rattle.script_world.specs.Meaning as world
 use Rattle.script_world.specs.Outcomes.{Outcome}
 use Rattle.script_world.proofs.callers.Fits.{Lawful}
@@ -51,15 +51,13 @@ use Rattle.script_world.proofs.callers.DiskFits.{FaultsKeep}
 use Rattle.script_meaning.specs.Fit.{AreDefinable, ViewFits, SessionFits}
 use Rattle.script_meaning.specs.DefinitionLines.{define}
 use Rattle.script_meaning.specs.Language.{language, store_writing, Written, begun_of, begin_asked, begin, finish, bytes_of, is_cut_off, kept_step, history_machine}
-use Rattle.script_meaning.proofs.AssignedIntegers.{AssignsInteger, AskedInteger, asked-fits}
-use Rattle.script_meaning.proofs.Begins.{AskedOf, generations_in, begins, Assigns}
+use Rattle.script_meaning.proofs.Begins.{AskedOf, generations_in, begins}
 use Rattle.script_meaning.proofs.CutOff.{cut_off-cases}
 use Rattle.script_meaning.proofs.callers.Defining.{defined-definable}
-use Rattle.script_meaning.proofs.Fitting.{one_cell, single-kind}
-use Rattle.script_meaning.proofs.FittingViews.{view-written, view-updated, view-reverted, view-acquired, view-resynced, view-released, view-committed, view-attached, view-stays, taken-other, given-other, all-given-other, given-owned, all-given-owned, none-left, given, owner_of-none_given}
+use Rattle.script_meaning.proofs.FittingViews.{view-written, view-maintained, view-updated, view-reverted, view-acquired, view-resynced, view-released, view-committed, view-attached, view-stays, taken-other, given-other, all-given-other, given-owned, all-given-owned, none-left, given, owner_of-none_given}
 use Rattle.script_meaning.proofs.Granting.{Free, names-all, free-all, taken-objects, may-be-kept}
 use Rattle.script_meaning.proofs.KeptKinds.{if-some, each-some, seen-kept}
-use Rattle.script_meaning.proofs.ReadyLines.{IsPermitted, IsReadyFor, asked-ready}
+use Rattle.script_meaning.proofs.ReadyLines.{IsReadyFor, asked-ready}
 use Rattle.script_meaning.proofs.Replies.{Granted, granted, acquire-cases, resync-cases, release-cases, commit-cases, latest-are, number-small}
 use Rattle.script_meaning.proofs.StoredBodies.{KeptBodies, first-kept, committed-kept, found-all}
 use Rattle.script_meaning.proofs.Recording.{are_changes, changes_fit, changed-own, staged-changed}
@@ -85,36 +83,37 @@ Spoken written = Unit {0}
 -- ---- what a session asks
 
 -- what a session asks by a command, which it keeps until the reply; it is as it was
-pub record AskedSo (s : Session) (it : Entry) (asking : Waiting) : Type 0 where
+pub record AskedSo (d : List Def) (s : Session) (it : Entry) (asking : Waiting) : Type 0 where
   pub own : Command
   pub waits : asking ≡ waiting s own
   pub asked : AskedOf s own it
   pub ready : IsReady s own
-  pub permitted : IsPermitted s own
+  pub permitted : IsPermitted d s own
 
-abbrev Asks : Session → world.Begun Entry Session Waiting → Type 0
-Asks s (world.said answer after) = Unit {0}
-Asks s (world.ask it asking) = AskedSo s it asking
+abbrev Asks : List Def → Session → world.Begun Entry Session Waiting → Type 0
+Asks d s (world.said answer after) = Unit {0}
+Asks d s (world.ask it asking) = AskedSo d s it asking
 
-asks_as : (d : List Def) (s : Session) (a : Asked) → IsReadyFor s a → Asks s (begin_asked d s a)
+asks_as : (d : List Def) (s : Session) (a : Asked) → IsReadyFor d s a → Asks d s (begin_asked d s a)
 asks_as d s (Refused refusal) ready = tt
 asks_as d s (Runs own) ready =
-    begins d s own (λ b. Asks s (begun_of (kept_waiting own b))) (record {
+    begins d s own (λ b. Asks d s (begun_of (kept_waiting own b))) (record {
       refused = λ refusal is. tt;
       asks = λ it asked. record { own = own; waits = refl; asked = asked; ready = ready.0; permitted = ready.1 };
       nothing = λ view is attached none left. tt;
-      assigned = λ name value object assigned. tt;
-      shown = λ name object shown. tt;
+      written = λ view object cells is attached. tt;
+      maintained = λ view object values is attached. tt;
+      shown = λ view cell is attached. tt;
       released = λ view objects is attached left. tt;
       reverted = λ view objects is attached. tt;
       updated = λ view objects is attached. tt;
     })
 
-asks : (d : List Def) (s : Session) (written : Written) → Asks s (begin d s written)
+asks : (d : List Def) (s : Session) (written : Written) → Asks d s (begin d s written)
 asks d s written = asks_as d s (asked d s written.line written.from) (asked-ready d s written.line written.from)
 
-pub asked_so : (d : List Def) (s : Session) (statement : Written) (it : Entry) (asking : Waiting) → begin d s statement ≡ world.ask it asking → AskedSo s it asking
-asked_so d s statement it asking is = subst (Asks s) is (asks d s statement)
+pub asked_so : (d : List Def) (s : Session) (statement : Written) (it : Entry) (asking : Waiting) → begin d s statement ≡ world.ask it asking → AskedSo d s it asking
+asked_so d s statement it asking is = subst (Asks d s) is (asks d s statement)
 
 -- a session that answers alone fits
 abbrev FitsAfter : List Def → Workspace → ℕ → world.Begun Entry Session Waiting → Type 0
@@ -151,15 +150,18 @@ module _ (d : List Def) (names : List (List ℕ)) (shared : Workspace) (count : 
       view-stays (record shared { owners = given_up shared.owners s.who [] }) shared s.who view it [] refl refl (λ object own. refl)
       (λ object. let same = owner_of-none_given shared.owners s.who object in ((λ owned. same ∙ owned), λ owned. sym same ∙ owned))
 
-  begins_fit : (a : Asked) → AskedInteger a → IsReadyFor s a → FitsAfter d shared s.who (begin_asked d s a)
-  begins_fit (Refused refusal) spoken ready = fits
-  begins_fit (Runs own) spoken ready =
+  begins_fit : (a : Asked) → IsReadyFor d s a → FitsAfter d shared s.who (begin_asked d s a)
+  begins_fit (Refused refusal) ready = fits
+  begins_fit (Runs own) ready =
       begins d s own (λ b. FitsAfter d shared s.who (begun_of (kept_waiting own b))) (record {
         refused = λ refusal its. fits;
         asks = λ it asked. tt;
         nothing = λ view is attached none left. fits;
-        assigned = assigned;
-        shown = λ name object shown. fits;
+        written = λ view object cells is attached. with_view shared s.mode (rule.written view object cells) fits.session.reads (view-written shared s.who view object cells (fitting view attached)
+            (if-some (λ one. IsSomeAnd (object_of one object) (λ found. AreHeldBy found.kind cells)) s.view view attached (subst (IsReady s) is ready.0)));
+        maintained = λ view object values is attached. with_view shared s.mode (rule.maintained view object values) fits.session.reads (view-maintained shared s.who view object values (fitting view attached)
+            (if-some (λ one. IsSomeAnd (object_of one object) (CanMaintain values)) s.view view attached (subst (IsReady s) is ready.0)));
+        shown = λ view cell is attached. fits;
         released = λ view objects is attached left. with_view shared s.mode (rule.released view objects) fits.session.reads (none_given (rule.released view objects)
             (subst (λ (those : List ℕ). ViewFits (record shared { owners = given_up shared.owners s.who those }) s.who (rule.released view objects)) left (view-released shared s.who view objects (fitting view attached) (ready_owned view objects attached (subst (IsReady s) is ready.0)))));
         reverted = λ view objects is attached. with_view shared s.mode (rule.reverted view (or_all (seen_objects view) objects)) fits.session.reads (view-reverted shared s.who view (or_all (seen_objects view) objects) (fitting view attached));
@@ -172,14 +174,6 @@ module _ (d : List Def) (names : List (List ℕ)) (shared : Workspace) (count : 
       all_owned : (view : ViewState) (objects : List ℕ) → AreOwned view objects → AreOwned view (or_all (owned_objects view) objects)
       all_owned view [] owned = owned-listed view
       all_owned view (object ∷ objects) owned = owned
-
-      assigned : (name : List ℕ) (value : ℤ) (object : ℕ) → Assigns d s own name value object → Fits d shared s.who (with_cell s object (Int value))
-      assigned name value object it =
-          let view = it.sees.view in
-          let found = it.sees.found in
-          let kept = seen-kept shared.definitions view object found (fitting view it.sees.attached).fits.kinds it.sees.seen in
-          let single = single-kind d object found.kind it.single (subst (λ (those : List Def). object_in (kept_kinds those) object ≡ Some found.kind) sound.definitions_are kept) in
-          seen_so shared (λ (one : ViewState). rule.written one object (one_cell value)) view it.sees.attached fits.session.reads (view-written shared s.who view object found value (fitting view it.sees.attached) it.sees.seen single (subst AssignsInteger it.is spoken))
 
   -- what a reply to what a command asked leaves: of the shared state, of the session, and of the others
   pub record Kept (own : Command) (r : Reply × Workspace) : Type 0 where
@@ -244,7 +238,7 @@ module _ (d : List Def) (names : List (List ℕ)) (shared : Workspace) (count : 
       abbrev taken_now : List ℕ
       taken_now = taken_of (generations_in s keep) fresh
 
-      grant_kept : IsPermitted s (command.Acquire keep fresh same) → Granted objects s.who (generations_in s keep) fresh (generations_in s same) → Answers (command.Acquire keep fresh same) acquiring (Acquired (latest_of objects fresh))
+      grant_kept : IsPermitted d s (command.Acquire keep fresh same) → Granted objects s.who (generations_in s keep) fresh (generations_in s same) → Answers (command.Acquire keep fresh same) acquiring (Acquired (latest_of objects fresh))
       grant_kept permitted granted =
           let free = free-all shared s keep fresh granted.keep_may granted.fresh_may in
           record {
@@ -265,7 +259,7 @@ module _ (d : List Def) (names : List (List ℕ)) (shared : Workspace) (count : 
               by_test true is = inr (sym (same_Some s.who by (after true is)), (names-all (Free shared s) taken_now object free is).kept)
               by_test false is = inl (after false is)
 
-      acquire_kept : IsPermitted s (command.Acquire keep fresh same) → Kept (command.Acquire keep fresh same) (shared_step bodies shared acquiring)
+      acquire_kept : IsPermitted d s (command.Acquire keep fresh same) → Kept (command.Acquire keep fresh same) (shared_step bodies shared acquiring)
       acquire_kept permitted =
           acquire-cases (Answers (command.Acquire keep fresh same) acquiring) shared.definitions objects s.who (generations_in s keep) fresh (generations_in s same)
           (λ object is. record { all = sound; own_fits = fits; others = λ other t differs it. it })
@@ -373,7 +367,7 @@ module _ (d : List Def) (names : List (List ℕ)) (shared : Workspace) (count : 
   as_given : (own : Command) (asked is : Entry) → asked ≡ is → (is_cut_off is (shared_step bodies shared is).0 ≡ false → Kept own (shared_step bodies shared is)) → Kept own (kept_step shared asked)
   as_given own asked is same kept = subst (λ (those : Entry). Kept own (kept_step shared those)) (sym same) (step_kept own is kept)
 
-  pub kept_so : (own : Command) (asked : Entry) → IsReady s own → IsPermitted s own → AskedOf s own asked → Kept own (kept_step shared asked)
+  pub kept_so : (own : Command) (asked : Entry) → IsReady s own → IsPermitted d s own → AskedOf s own asked → Kept own (kept_step shared asked)
   kept_so (command.Attach mode) asked ready permitted it = as_given (command.Attach mode) asked (entry.Attach s.who) it.is (λ uncut. attach_kept mode it.unattached)
   kept_so command.Detach asked ready permitted it = as_given command.Detach asked (entry.Detach s.who) it.is (λ uncut. detach_kept)
   kept_so (command.Acquire keep fresh same) asked ready permitted it =
@@ -385,8 +379,9 @@ module _ (d : List Def) (names : List (List ℕ)) (shared : Workspace) (count : 
   kept_so command.Commit asked ready permitted it = as_given command.Commit asked (entry.Commit s.who (rule.changes it.view) (leaving it.view)) it.is (commit_kept it.view it.attached)
   kept_so (command.Revert listed) asked ready permitted it = absurd it
   kept_so (command.Update listed) asked ready permitted it = absurd it
-  kept_so (command.Assign name value) asked ready permitted it = absurd it
-  kept_so (command.Show name) asked ready permitted it = absurd it
+  kept_so (command.Write object cells) asked ready permitted it = absurd it
+  kept_so (command.Maintain object values) asked ready permitted it = absurd it
+  kept_so (command.Show cell) asked ready permitted it = absurd it
 
 -- ---- the laws of one session
 
@@ -418,9 +413,9 @@ module _ (d : List Def) (names : List (List ℕ)) (shared : Workspace) (count wh
 
   begun_fits : (written : Written) → FitsAfter d shared who (begin d s written)
   begun_fits written =
-      subst (λ (at : ℕ). FitsAfter d shared at (begin d s written)) fits.session.number (begins_fit d names shared count s few_own sound (at_number d shared who s fits) (asked d s written.line written.from) (asked-fits d s written.line written.from) (asked-ready d s written.line written.from))
+      subst (λ (at : ℕ). FitsAfter d shared at (begin d s written)) fits.session.number (begins_fit d names shared count s few_own sound (at_number d shared who s fits) (asked d s written.line written.from) (asked-ready d s written.line written.from))
 
-  after_kept : (own : Command) (asked : Entry) → IsReady s own → IsPermitted s own → AskedOf s own asked → Kept d names shared count s few_own sound (at_number d shared who s fits) own (kept_step shared asked)
+  after_kept : (own : Command) (asked : Entry) → IsReady s own → IsPermitted d s own → AskedOf s own asked → Kept d names shared count s few_own sound (at_number d shared who s fits) own (kept_step shared asked)
   after_kept own asked ready permitted known = kept_so d names shared count s few_own sound (at_number d shared who s fits) own asked ready permitted known
 
 pub language_lawful : (records : List Decoded) → Lawful history_machine Spoken (Defined records) Sound Fits

@@ -1,16 +1,15 @@
 -- The view of a session fits after each of its commands, after what follows a reply, and after what another session did.
-use Rattle.std.specs.Prelude.{◌≡◌, ◌≢◌, ◌==◌, ◌+◌, ◌&&◌, ◌++◌, ◌↔◌, ℕ, zero, suc, ℤ, Bool, true, false, not, cond, filter, List, [], ◌∷◌, Option, Some, None, IfSome, if◌then◌else◌, refl}
+use Rattle.std.specs.Prelude.{◌≡◌, ◌≢◌, ◌==◌, ◌+◌, ◌&&◌, ◌++◌, ◌↔◌, ℕ, zero, suc, Bool, true, false, not, cond, filter, List, [], ◌∷◌, Option, Some, None, IfSome, if◌then◌else◌, refl}
 use Rattle.std.specs.Option.{option_map, IsSomeAnd}
 use Rattle.std.proofs.Common.{◌∙◌, ap, ap₂, sym, subst, ne_eqb, arith}
 use Rattle.std.proofs.lemmas.Bool.{eqb-true, eq-eqb}
 use Rattle.std.proofs.lemmas.Option.{none-some, same_Some}
 use Rattle.std.proofs.Math.Bool.{and-false, and-true}
-use Rattle.aw_cell.specs.declared.cell.Cell.TheVariants.{Int}
-use Rattle.aw_cell.specs.declared.cell.Kind.TheVariants as cells
+use Rattle.aw_dim.specs.DimensionState.{DimensionState}
 use Rattle.aw_schema.specs.declared.definition.Def.{Def}
 use Rattle.aw_schema.specs.declared.definition.DefKind.{DefKind}
-use Rattle.aw_schema.specs.declared.definition.DefKind.TheVariants.{Variable}
 use Rattle.aw_schema.specs.Definitions.{is_kept}
+use Rattle.aw_var.specs.CellMap.{Cells}
 use Rattle.aw_body.specs.declared.body.Body.{Body}
 use Rattle.aw_body.specs.declared.change.Change.{Change}
 use Rattle.aw_body.specs.declared.change.Fresh.{Fresh}
@@ -18,7 +17,6 @@ use Rattle.aw_body.specs.Generations.{Bodies, change_of, latest_number, latest_b
 use Rattle.aw_body.specs.KeptBodies.{bodies_of, first_of}
 use Rattle.aw_body.specs.Owners.{Owners, owner_of, is_own, taken, given_up, all_given_up}
 use Rattle.aw_body.specs.OwnerLaws.{owner_of-taken, owner_of-given_up, owner_of-all_given_up}
-use Rattle.aw_codec.specs.Records.{IsSpelled}
 use Rattle.mv_core.specs.Lookups.{latest_from}
 use Rattle.mv_core.specs.Workspace.{Workspace, object_of as object_kept, standing_from, standing}
 use Rattle.mv_view.specs.Each.{object_in, only, listed, names, passes, numbers_from}
@@ -26,24 +24,39 @@ use Rattle.mv_view.specs.Fit as seen
 use Rattle.mv_view.specs.Laws.{AreLatest, MayBeKept, CanRise, grown, leaving_objects, unstaged_in}
 use Rattle.mv_view.specs.Rules as rule
 use Rattle.mv_view.specs.ViewState.{ObjectView, ViewState, object_of, is_owned, AreOwned, AreCellsOf, kinds_of, kept_kinds}
-use Rattle.mv_view.proofs.callers.Fitting.{kind-cond, own-calls, acquiring, resyncing, latest-found}
+use Rattle.mv_view.proofs.callers.Fitting.{kind-cond, some-and, own-calls, acquiring, resyncing, latest-found}
 use Rattle.mv_view.proofs.callers.Committing.{attaching, committing, releasing, others-fit}
-use Rattle.ses_step.specs.Sessions.{is_leaving, leaving}
+use Rattle.ses_step.specs.Sessions.{is_leaving, leaving, AreHeldBy, CanMaintain}
 use Rattle.script_meaning.specs.Fit.{IsKeptOf, ViewFits}
 use Rattle.script_meaning.proofs.Differences.{gives_newer}
 use Rattle.script_meaning.proofs.KeptKinds.{if-some, each-some, seen-kept}
 use Rattle.script_meaning.proofs.StoredBodies.{KeptBodies}
-use Rattle.script_meaning.proofs.Fitting.{IsGood, good-if, good-seen, good-renewed, good-written, good-staging, good-reverting, good-owning, good-releasing, good-committed, one_cell, view-fits, view-changed, goods}
+use Rattle.script_meaning.proofs.WrittenCells.{held-cells}
+use Rattle.script_meaning.proofs.Fitting.{IsGood, good-if, good-seen, good-renewed, good-written, good-maintained, good-staging, good-reverting, good-owning, good-releasing, good-committed, view-fits, view-changed, goods}
 
--- ---- an assignment, UPDATE
+-- ---- an assignment, MAINTAIN, UPDATE
 
-pub view-written : (w : Workspace) (who : ℕ) (view : ViewState) (object : ℕ) (found : ObjectView) (value : ℤ) → ViewFits w who view → object_of view object ≡ Some found → found.kind ≡ Variable cells.Int [] → IsSpelled (Int value) → ViewFits w who (rule.written view object (one_cell value))
-view-written w who view object found value it there single spelled =
-    view-changed w w who view (only object (rule.with_cells (one_cell value))) it
-    ((own-calls w.definitions (bodies_of w.definitions) w.history w.owners view it.fits).written object (one_cell value) (subst (λ (seen : Option ObjectView). IsSomeAnd seen (λ one. AreCellsOf one.kind (one_cell value))) (sym there) (subst (λ (kind : DefKind). AreCellsOf kind (one_cell value)) (sym single) refl)))
-    (λ at one is good. good-if (object == at) (rule.with_cells (one_cell value) one) one (λ same.
-    let here : found ≡ one = same_Some found one (sym there ∙ ap (object_of view) (eqb-true object at same) ∙ is) in
-    good-written one value (sym (ap (λ (o : ObjectView). o.kind) here) ∙ single) spelled good) good)
+-- where the object is, what holds of it holds of what is found there
+at-object : (view : ViewState) (P : ObjectView → Type 0) (object at : ℕ) (one : ObjectView) → IsSomeAnd (object_of view object) P → (object == at) ≡ true → object_of view at ≡ Some one → P one
+at-object view P object at one holds same is = some-and P (object_of view at) one is (subst (λ (n : ℕ). IsSomeAnd (object_of view n) P) (eqb-true object at same) holds)
+
+some-more : (P Q : ObjectView → Type 0) (found : Option ObjectView) → ((one : ObjectView) → P one → Q one) → IsSomeAnd found P → IsSomeAnd found Q
+some-more P Q None more holds = absurd holds
+some-more P Q (Some one) more holds = more one holds
+
+-- cells that the object can hold
+pub view-written : (w : Workspace) (who : ℕ) (view : ViewState) (object : ℕ) (cells : Cells) → ViewFits w who view → IsSomeAnd (object_of view object) (λ found. AreHeldBy found.kind cells) → ViewFits w who (rule.written view object cells)
+view-written w who view object cells it held =
+    view-changed w w who view (only object (rule.with_cells cells)) it
+    ((own-calls w.definitions (bodies_of w.definitions) w.history w.owners view it.fits).written object cells (some-more (λ found. AreHeldBy found.kind cells) (λ found. AreCellsOf found.kind cells) (object_of view object) (λ one holds. held-cells one.kind cells holds) held))
+    (λ at one is good. good-if (object == at) (rule.with_cells cells one) one (λ same. good-written one cells (at-object view (λ found. AreHeldBy found.kind cells) object at one held same is) good) good)
+
+-- values of a dimension that the session owns
+pub view-maintained : (w : Workspace) (who : ℕ) (view : ViewState) (object : ℕ) (values : DimensionState) → ViewFits w who view → IsSomeAnd (object_of view object) (CanMaintain values) → ViewFits w who (rule.maintained view object values)
+view-maintained w who view object values it can =
+    view-changed w w who view (only object (rule.with_values values)) it
+    ((own-calls w.definitions (bodies_of w.definitions) w.history w.owners view it.fits).maintained object values (some-more (CanMaintain values) (λ found. found.owned ≡ true) (object_of view object) (λ one holds. holds.owned) can))
+    (λ at one is good. good-if (object == at) (rule.with_values values one) one (λ same. good-maintained one values (at-object view (CanMaintain values) object at one can same is) good) good)
 
 pub view-updated : (w : Workspace) (who : ℕ) (view : ViewState) (objects : List ℕ) → ViewFits w who view → AreOwned view objects → ViewFits w who (rule.updated view objects)
 view-updated w who view objects it owned =

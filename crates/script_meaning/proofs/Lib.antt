@@ -1,4 +1,3 @@
-pub mod AssignedIntegers
 pub mod DefinedTrees
 pub mod Begins
 pub mod CutOff
@@ -8,6 +7,7 @@ pub mod Differences
 pub mod Pairs
 pub mod KeptKinds
 pub mod StoredBodies
+pub mod WrittenCells
 pub mod Replies
 pub mod Granting
 pub mod ReadyLines
@@ -32,4 +32,6 @@ pub mod OneLineAnswers
 pub mod FittingSessions
 pub mod LineOrder
 pub mod LineAnswers
+pub mod ShownSingles
+pub mod AssignedTargets
 pub mod AcquireAnswers

@@ -23,8 +23,9 @@ use Rattle.script_meaning.specs.Language.{HistoryDisk, HistoryWorld, by_history}
 use Rattle.script_meaning.specs.SnapshotReads.{SharesNothing, ReadersShareNothing}
 use Rattle.script_meaning.specs.Transcript.{world_at}
 use Rattle.script_meaning.specs.Turns.{turn_from}
+use Rattle.ses_step.proofs.callers.ReadyLines.{IsPermitted}
 use Rattle.script_meaning.proofs.Begins.{AskedOf, begins}
-use Rattle.script_meaning.proofs.ReadyLines.{IsReadyFor, IsPermitted, asked-ready}
+use Rattle.script_meaning.proofs.ReadyLines.{IsReadyFor, asked-ready}
 use Rattle.script_meaning.proofs.ReachableWorlds.{fits_at, found_at_number}
 
 -- who owns nothing gives up nothing
@@ -44,7 +45,7 @@ module _ (coming : List Outcome) (definitions : List Def) (names : List (List �
   abbrev Asks : Command → Entry → Type 0
   Asks own it = SharesNothing disk (turn_from (by_history coming) definitions names disk (Ask it, waiting s own))
 
-  asks_nothing : (own : Command) (it : Entry) → IsPermitted s own → AskedOf s own it → Asks own it
+  asks_nothing : (own : Command) (it : Entry) → IsPermitted definitions s own → AskedOf s own it → Asks own it
   asks_nothing (command.Attach mode) it permitted known =
       subst (Asks (command.Attach mode)) (sym known.is) (record { definitions = refl; history = refl; owners = λ object. refl; tried = refl })
   asks_nothing command.Detach it permitted known =
@@ -56,18 +57,20 @@ module _ (coming : List Outcome) (definitions : List Def) (names : List (List �
   asks_nothing command.Commit it permitted known = absurd (true≢false (permitted reader))
   asks_nothing (command.Revert objects) it permitted known = absurd known
   asks_nothing (command.Update objects) it permitted known = absurd known
-  asks_nothing (command.Assign name value) it permitted known = absurd known
-  asks_nothing (command.Show name) it permitted known = absurd known
+  asks_nothing (command.Write object cells) it permitted known = absurd known
+  asks_nothing (command.Maintain object values) it permitted known = absurd known
+  asks_nothing (command.Show cell) it permitted known = absurd known
 
-  line_shares_nothing : (a : Asked) → IsReadyFor s a → SharesNothing disk (turn_from (by_history coming) definitions names disk (begun_as definitions s a))
+  line_shares_nothing : (a : Asked) → IsReadyFor definitions s a → SharesNothing disk (turn_from (by_history coming) definitions names disk (begun_as definitions s a))
   line_shares_nothing (Refused refusal) ready = record { definitions = refl; history = refl; owners = λ object. refl; tried = refl }
   line_shares_nothing (Runs own) ready =
       begins definitions s own (λ b. SharesNothing disk (turn_from (by_history coming) definitions names disk (kept_waiting own b))) (record {
         refused = λ refusal is. record { definitions = refl; history = refl; owners = λ object. refl; tried = refl };
         asks = λ it known. asks_nothing own it ready.1 known;
         nothing = λ view is attached none left. record { definitions = refl; history = refl; owners = λ object. refl; tried = refl };
-        assigned = λ name value object it. record { definitions = refl; history = refl; owners = λ object. refl; tried = refl };
-        shown = λ name object it. record { definitions = refl; history = refl; owners = λ object. refl; tried = refl };
+        written = λ view object cells is attached. record { definitions = refl; history = refl; owners = λ object. refl; tried = refl };
+        maintained = λ view object values is attached. record { definitions = refl; history = refl; owners = λ object. refl; tried = refl };
+        shown = λ view cell is attached. record { definitions = refl; history = refl; owners = λ object. refl; tried = refl };
         released = λ view objects is attached left. record { definitions = refl; history = refl; owners = λ object. refl; tried = refl };
         reverted = λ view objects is attached. record { definitions = refl; history = refl; owners = λ object. refl; tried = refl };
         updated = λ view objects is attached. record { definitions = refl; history = refl; owners = λ object. refl; tried = refl };

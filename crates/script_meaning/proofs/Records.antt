@@ -116,8 +116,9 @@ asked-commit s (command.Release objects) who commit leave known P holds = never 
     never by those is = cc
 asked-commit s (command.Revert objects) who commit leave known P holds = absurd known
 asked-commit s (command.Update objects) who commit leave known P holds = absurd known
-asked-commit s (command.Assign name value) who commit leave known P holds = absurd known
-asked-commit s (command.Show name) who commit leave known P holds = absurd known
+asked-commit s (command.Write object cells) who commit leave known P holds = absurd known
+asked-commit s (command.Maintain object values) who commit leave known P holds = absurd known
+asked-commit s (command.Show cell) who commit leave known P holds = absurd known
 
 module _ (those : List Decoded) (d : List Def) (shared : Workspace) (count who : ℕ) (s : Session) (sound : Sound d shared count) (fits : Fits d shared who s) (match : Stands those d shared) where
   definable : AreDefinable shared.definitions

@@ -5,17 +5,21 @@ use Rattle.std.specs.Option.{ForSome, option_map, option_or}
 use Rattle.std.proofs.Common.{◌∙◌, ap, sym, subst, ⊎_elim}
 use Rattle.std.proofs.lemmas.Bool.{true≢false}
 use Rattle.std.proofs.lemmas.Option.{none-some, same_Some}
+use Rattle.aw_dim.specs.DimensionState.{DimensionState}
 use Rattle.aw_schema.specs.declared.definition.Def.{Def}
 use Rattle.aw_schema.specs.declared.fault.SchemaFault.{SchemaFault}
 use Rattle.aw_schema.specs.declared.fault.SchemaFault.TheVariants as schema
 use Rattle.aw_schema.specs.declared.fault.SchemaFault.TheVariants.{Repeat, TooMany, Unknown, WrongKind}
 use Rattle.aw_schema.specs.Checking.{repeated_name, refusal}
-use Rattle.aw_schema.specs.Definitions.{has_name}
+use Rattle.aw_schema.specs.Definitions.{has_name, object_of as object_of_name}
+use Rattle.aw_cell.specs.declared.number.Arith.TheVariants as arith
 use Rattle.aw_cell.specs.Names.{is_word_byte}
 use Rattle.aw_body.specs.KeptBodies.{bodies_of}
 use Rattle.dml_tree.specs.declared.definition.Defined.{Defined}
 use Rattle.dml_tree.specs.declared.definition.Defined.TheVariants as tree
 use Rattle.dml_tree.specs.declared.definition.Definition.{Definition as Tree}
+use Rattle.dml_tree.specs.declared.expr.Expr.{Expr}
+use Rattle.dml_tree.specs.declared.expr.Target.{Target}
 use Rattle.dml_tree.specs.declared.statement.Mode.{Mode}
 use Rattle.dml_tree.specs.declared.statement.Mode.TheVariants.{Multi, ReadOnly}
 use Rattle.dml_tree.specs.declared.statement.Statement.{Statement}
@@ -28,7 +32,11 @@ use Rattle.dml_kinds.specs.Checking.{formula_refusal}
 use Rattle.dml_kinds.specs.Meanings as typed
 use Rattle.dml_types.specs.declared.checking.Typed.{Typed}
 use Rattle.dml_lines.specs.Lines.{DefinitionRead, definition_in, statement_in}
-use Rattle.mv_view.specs.ViewState.{ViewState}
+use Rattle.dim_maintain.specs.declared.fault.MaintainFault.{MaintainFault}
+use Rattle.dim_maintain.specs.declared.fault.MaintainFault.TheVariants as maintain
+use Rattle.dml_loop.specs.declared.fault.LoopFault.{LoopFault}
+use Rattle.dml_loop.specs.declared.fault.LoopFault.TheVariants as loop
+use Rattle.mv_view.specs.ViewState.{ObjectView, ViewState, object_of}
 use Rattle.mv_core.specs.declared.entry.Entry.{Entry}
 use Rattle.mv_core.specs.declared.entry.Entry.TheVariants.{Acquire, Commit, Release, Detach}
 use Rattle.mv_core.specs.declared.entry.Reply.{Reply}
@@ -39,6 +47,7 @@ use Rattle.aw_store.proofs.callers.SharedReplies.{IsPlain, plain-reply}
 use Rattle.ses_report.specs.declared.refusal.Refusal.{Refusal}
 use Rattle.ses_step.specs.declared.definition.Definition.{Definition}
 use Rattle.ses_step.specs.declared.command.Command.{Command}
+use Rattle.ses_step.specs.declared.command.Command.TheVariants as command
 use Rattle.ses_step.specs.declared.command.Asked.{Asked}
 use Rattle.ses_step.specs.declared.command.Asked.TheVariants.{Runs, Refused}
 use Rattle.ses_step.specs.declared.definition.NamedKind.{NamedKind}
@@ -49,11 +58,16 @@ use Rattle.ses_step.specs.declared.session.Session.{Session as Waiting}
 use Rattle.ses_step.specs.Commands.{command_of}
 use Rattle.ses_step.specs.Kept.{kept_kind}
 use Rattle.ses_step.specs.Lines.{keeps_form, after_blanks, is_passed_over, has_prefix, is_definition_line, opens_block, is_end, form_behind, line_form}
+use Rattle.ses_step.specs.Maintaining.{is_dimension, change_of, cause_of, maintain_refusal, changed, dimension_in, of_values, maintained_asked}
+use Rattle.ses_step.specs.Meant.{runs, fault_refusal as run_refusal, given, typed_expression, fixes_of, target_of, shown_asked, written_to, assigned_asked, on_view, meant}
 use Rattle.ses_step.specs.Refusing as line
 use Rattle.ses_step.specs.Refusing.{attachment_refusal, publishes, mode_refusal, checked, objects_named, owns, first_owned, first_foreign, held_refusal, missing, checked_refusal, statement_refusal}
-use Rattle.ses_step.specs.SessionLines.{parse_refusal, runs, asked_unless, asked_by, asked}
-use Rattle.ses_step.specs.Sessions.{kept_waiting}
+use Rattle.ses_step.specs.SessionLines.{parse_refusal, asked_unless, asked_by, asked}
+use Rattle.ses_step.specs.Sessions.{kept_waiting, name_of}
 use Rattle.ses_step.specs.Words.{is_blank}
+use Rattle.ses_step.proofs.callers.ReadyLines.{meant-cases}
+use Rattle.ses_value.specs.declared.target.AssignedTo.{AssignedTo}
+use Rattle.ses_value.specs.Evaluating.{shown_in, assigned_in}
 use Rattle.script_meaning.proofs.Begins.{IsOwn, begins}
 use Rattle.script_meaning.proofs.CutOff.{cut_off-cases}
 use Rattle.script_world.specs.Meaning as world
@@ -332,15 +346,86 @@ abbrev QuietAsked : Asked → Type 0
 QuietAsked (Refused refusal) = Quiet refusal
 QuietAsked (Runs own) = Unit {0}
 
+runs-quiet : (own : Option Command) → QuietAsked (runs own)
+runs-quiet None = refl
+runs-quiet (Some own) = tt
+
+run-quiet : (d : List Def) (fault : LoopFault) → Quiet (run_refusal d fault)
+run-quiet d (loop.Arith arith.Overflow) = refl
+run-quiet d (loop.Arith arith.DivideByZero) = refl
+run-quiet d (loop.NoValue text) = refl
+run-quiet d (loop.Empty dimension) = refl
+run-quiet d loop.TooMany = refl
+run-quiet d loop.NoMemory = refl
+
+given-asked-quiet : {A : Type 0} (d : List Def) (own : A → Command) (run : Result A LoopFault) → QuietAsked (given d own run)
+given-asked-quiet d own (Ok it) = tt
+given-asked-quiet d own (Err fault) = run-quiet d fault
+
+view-quiet : (s : Session) (asks : ViewState → Asked) → ((view : ViewState) → QuietAsked (asks view)) → QuietAsked (on_view s asks)
+view-quiet s asks quiet = by s.view
+  where
+    by : (view : Option ViewState) → QuietAsked (elim view [ None ↦ Refused not_attached | Some one ↦ asks one ])
+    by None = refl
+    by (Some view) = quiet view
+
+assigned-quiet : (d : List Def) (view : ViewState) (target : Target) (e : Expr) → QuietAsked (assigned_asked d view target e)
+assigned-quiet d view target e = by_name (object_of_name d target.name)
+  where
+    by_target : (object : ℕ) (to : Option AssignedTo) → QuietAsked (written_to d view object to e)
+    by_target object None = refl
+    by_target object (Some to) = given-asked-quiet d (command.Write object) (assigned_in view to (typed_expression d e))
+
+    by_seen : (object : ℕ) (seen : Option ObjectView) → QuietAsked (elim seen [ None ↦ Refused no_form | Some found ↦ written_to d view object (target_of found.kind (fixes_of d target.fixes)) e ])
+    by_seen object None = refl
+    by_seen object (Some found) = by_target object (target_of found.kind (fixes_of d target.fixes))
+
+    by_name : (named : Option ℕ) → QuietAsked (elim named [
+      | None ↦ Refused no_form
+      | Some object ↦ elim (object_of view object) [
+        | None ↦ Refused no_form
+        | Some found ↦ written_to d view object (target_of found.kind (fixes_of d target.fixes)) e
+      ]
+    ])
+    by_name None = refl
+    by_name (Some object) = by_seen object (object_of view object)
+
+maintain-quiet : (name : List ℕ) (fault : MaintainFault) → Quiet (maintain_refusal name fault)
+maintain-quiet name (maintain.NoValue text) = refl
+maintain-quiet name (maintain.Repeated text) = refl
+maintain-quiet name maintain.Full = refl
+maintain-quiet name maintain.NoMemory = refl
+
+changed-quiet : (name : List ℕ) (object : ℕ) (cause : Option MaintainFault) (values : DimensionState) → QuietAsked (changed name object cause values)
+changed-quiet name object (Some fault) values = maintain-quiet name fault
+changed-quiet name object None values = by (is_dimension values)
+  where
+    by : (b : Bool) → QuietAsked (cond b (Runs (command.Maintain object values)) (Refused no_form))
+    by true = tt
+    by false = refl
+
+maintained-quiet : (d : List Def) (it : Statement) (view : ViewState) (objects : List ℕ) → QuietAsked (maintained_asked d it view objects)
+maintained-quiet d it view [] = refl
+maintained-quiet d it view (object ∷ []) = by (dimension_in view object)
+  where
+    by : (found : Option DimensionState) → QuietAsked (of_values d it object found)
+    by None = refl
+    by (Some values) = changed-quiet (name_of d object) object (cause_of it values) (change_of it values)
+maintained-quiet d it view (object ∷ other ∷ objects) = refl
+
+meant-quiet : (d : List Def) (s : Session) (one : Statement) → QuietAsked (meant d s one)
+meant-quiet d s one =
+    meant-cases d s QuietAsked one
+    (λ e same. view-quiet s (λ view. shown_asked d view e) (λ view. given-asked-quiet d command.Show (shown_in view (typed_expression d e))))
+    (λ target e same. view-quiet s (λ view. assigned_asked d view target e) (λ view. assigned-quiet d view target e))
+    (λ publishing held. view-quiet s (λ view. maintained_asked d one view (objects_named d one)) (λ view. maintained-quiet d one view (objects_named d one)))
+    (runs-quiet (command_of one (objects_named d one)))
+
 asked-quiet : (d : List Def) (s : Session) (text : List ℕ) (from : ℕ) → QuietAsked (asked d s text from)
 asked-quiet d s text from = by (statement_in text from)
   where
-    by_command : (own : Option Command) → QuietAsked (runs own)
-    by_command None = refl
-    by_command (Some own) = tt
-
-    by_refusal : (one : Statement) (found : Option Refusal) → MayQuiet found → QuietAsked (asked_unless d found one)
-    by_refusal one None quiet = by_command (command_of one (objects_named d one))
+    by_refusal : (one : Statement) (found : Option Refusal) → MayQuiet found → QuietAsked (asked_unless d s found one)
+    by_refusal one None quiet = meant-quiet d s one
     by_refusal one (Some refusal) quiet = quiet
 
     by : (read : Result Statement ParseFault) → QuietAsked (asked_by d s read)
@@ -354,17 +439,18 @@ Gentle s (world.ask it waiting) = waiting.known ≡ s
 
 own_quiet : (refusal : Refusal) → IsOwn refusal → is_fault refusal ≡ false
 own_quiet refusal own =
-    ⊎_elim (λ is. ap is_fault is) (λ rest. ⊎_elim (λ is. ap is_fault is) (λ is. ap is_fault is) rest) own
+    ⊎_elim (λ is. ap is_fault is) (λ rest. ⊎_elim (λ is. ap is_fault is) (λ named. ap is_fault named.1) rest) own
 
 gentle_as : (d : List Def) (s : Session) (a : Asked) → QuietAsked a → Gentle s (begin_asked d s a)
 gentle_as d s (Refused refusal) quiet = (quiet, λ refused. refl)
-gentle_as d s (Runs command) quiet =
-    begins d s command (λ b. Gentle s (begun_of (kept_waiting command b))) (record {
-      refused = λ refusal own. (own_quiet refusal own, λ refused. refl);
+gentle_as d s (Runs own) quiet =
+    begins d s own (λ b. Gentle s (begun_of (kept_waiting own b))) (record {
+      refused = λ refusal its. (own_quiet refusal its, λ refused. refl);
       asks = λ it asked. refl;
       nothing = λ view is attached made left. (refl, λ refused. refl);
-      assigned = λ name value object it. (refl, λ refused. absurd (true≢false (sym refused)));
-      shown = λ name object it. (refl, λ refused. refl);
+      written = λ view object cells is attached. (refl, λ refused. absurd (true≢false (sym refused)));
+      maintained = λ view object values is attached. (refl, λ refused. absurd (true≢false (sym refused)));
+      shown = λ view cell is attached. (refl, λ refused. refl);
       released = λ view objects is attached left. (refl, λ refused. absurd (true≢false (sym refused)));
       reverted = λ view objects is attached. (refl, λ refused. absurd (true≢false (sym refused)));
       updated = λ view objects is attached. (refl, λ refused. absurd (true≢false (sym refused)));

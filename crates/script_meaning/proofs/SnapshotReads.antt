@@ -1,28 +1,19 @@
 -- What a session sees of an object is the latest generation when it attaches, and what its own commands make of that.
-use Rattle.std.specs.Prelude.{◌≡◌, ◌≢◌, ◌⊎◌, ◌+◌, ◌==◌, ◌&&◌, ◌||◌, ℕ, ℤ, min, Bool, true, false, not, cond, List, [], ◌∷◌, length, Option, Some, None, Result, Ok, Err, is_some, nat_lt, slice_get, refl}
-use Rattle.std.specs.List.{list_all, cons_option}
+use Rattle.std.specs.Prelude.{◌≡◌, ◌≢◌, ◌⊎◌, ◌+◌, ◌==◌, ◌&&◌, ◌||◌, ℕ, min, Bool, true, false, not, cond, List, [], ◌∷◌, Option, Some, None, is_some, nat_le, slice_get, refl}
+use Rattle.std.specs.List.{cons_option}
 use Rattle.std.specs.Option.{option_map}
-use Rattle.std.specs.FinMap.{put, is_sorted}
 use Rattle.std.proofs.Common.{◌∙◌, ap, sym, subst, inl, inr, ⊎_elim, arith}
-use Rattle.std.proofs.lemmas.Bool.{and_parts, eqb-true, true≢false}
+use Rattle.std.proofs.lemmas.Bool.{eqb-true}
 use Rattle.std.proofs.lemmas.Option.{none-some}
 use Rattle.aw_cell.specs.declared.cell.Cell.{Cell}
-use Rattle.aw_cell.specs.declared.cell.Cell.TheVariants.{Na, Int}
-use Rattle.aw_cell.specs.declared.cell.Kind.{Kind}
-use Rattle.aw_cell.specs.declared.cell.Kind.TheVariants.{Int as Integer}
-use Rattle.aw_page.specs.Fitting.{is_of_kind}
+use Rattle.aw_dim.specs.DimensionState.{DimensionState}
 use Rattle.aw_schema.specs.declared.definition.Def.{Def}
 use Rattle.aw_schema.specs.declared.definition.DefKind.{DefKind}
-use Rattle.aw_schema.specs.declared.definition.DefKind.TheVariants.{Variable}
-use Rattle.aw_schema.specs.Definitions as definition
-use Rattle.aw_var.specs.CellMap.{Cells, by_slots}
-use Rattle.aw_var.specs.Variable.{is_pair_of}
+use Rattle.aw_var.specs.CellMap.{Cells}
 use Rattle.aw_body.specs.declared.body.Body.{Body}
-use Rattle.aw_body.specs.declared.body.Body.TheVariants.{Dim, Rel, Set, Var}
 use Rattle.aw_body.specs.declared.change.Change.{Change}
 use Rattle.aw_body.specs.declared.change.Fresh.{Fresh}
-use Rattle.aw_body.specs.declared.patch.BodyPatch.TheVariants.{Cells as CellPatch}
-use Rattle.aw_body.specs.BodyPatches.{applied, difference}
+use Rattle.aw_body.specs.BodyPatches.{difference}
 use Rattle.aw_body.specs.Generations.{Bodies, change_of}
 use Rattle.aw_body.specs.KeptBodies.{bodies_of}
 use Rattle.aw_body.specs.Owners.{owner_of, given_up, taken}
@@ -38,7 +29,7 @@ use Rattle.mv_core.specs.Workspace.{Workspace, object_of as object_kept, standin
 use Rattle.mv_view.specs.Each.{object_in, only, listed, names as is_named, passes}
 use Rattle.mv_view.specs.Laws.{unstaged_in}
 use Rattle.mv_view.specs.Rules as rule
-use Rattle.mv_view.specs.ViewState.{ObjectView, ViewState, IsOf, object_of, each, is_owned, owned_objects, kept_kinds, AreOwned}
+use Rattle.mv_view.specs.ViewState.{ObjectView, ViewState, object_of, each, is_owned, owned_objects, kept_kinds, AreOwned}
 use Rattle.mv_view.proofs.callers.Each.{object_in-each, names-numbers}
 use Rattle.mv_view.proofs.callers.Fitting.{kinds-each, kind-cond, some-and, owned-named, named-latest}
 use Rattle.mv_view.proofs.callers.Forms.{alike, difference-itself, difference-other}
@@ -51,59 +42,27 @@ use Rattle.ses_step.specs.declared.command.Command.TheVariants as command
 use Rattle.ses_step.specs.declared.session.Begun.{Begun}
 use Rattle.ses_step.specs.declared.session.Begun.TheVariants.{Said, Ask}
 use Rattle.ses_step.specs.declared.session.Known.{Known as Session}
-use Rattle.ses_step.specs.Sessions.{is_single_at, cell_in, with_cell, sharing, seen_objects, or_all, leaving, release_asked, kept_waiting, name_of, name_at, IsReady}
+use Rattle.ses_step.specs.Sessions.{sharing, seen_objects, or_all, leaving, release_asked, write_asked, kept_waiting, name_of, name_at, IsReady}
 use Rattle.script_world.specs.Worlds.{Event}
 use Rattle.script_world.specs.Outcomes.{Outcome, among}
-use Rattle.script_meaning.specs.LineAnswers.{NamesSingle}
 use Rattle.script_meaning.specs.Extending.{HasLatest, IsCommitted}
 use Rattle.script_meaning.specs.Fit.{SharedFits}
 use Rattle.script_meaning.specs.Language.{history_machine, by_history, HistoryDisk, HistoryWorld}
 use Rattle.aw_store.specs.StoredRecords.{CanBeOpened}
-use Rattle.script_meaning.specs.SnapshotReads.{is_at, holding, assigns, covers, latest, seen_after, Attaches, AttachGivesLatest, IsShown, ShowsWhatIsRead, first_seen, KeepsGeneration, AddsGeneration, MovesBy, Moves, moves_view, OwnCommandsMove, is_refusal}
+use Rattle.script_meaning.specs.SnapshotReads.{is_at, covers, latest, seen_after, Attaches, AttachGivesLatest, first_seen, KeepsGeneration, AddsGeneration, MovesBy, Moves, moves_view, OwnCommandsMove, is_refusal}
 use Rattle.script_meaning.specs.Transcript.{world_at}
 use Rattle.script_meaning.specs.Turns.{Turn, turn_from, turn}
-use Rattle.script_meaning.proofs.Begins.{Sees, located_cell-cases, generations_in}
+use Rattle.script_meaning.proofs.Begins.{generations_in}
 use Rattle.script_meaning.proofs.DiskTurns.{unwritten_turn, done_turn, turn-cases}
-use Rattle.script_meaning.proofs.Fitting.{IsGood, goods, one_cell, single-kind}
+use Rattle.script_meaning.proofs.Fitting.{IsGood, goods}
 use Rattle.script_meaning.proofs.Differences.{gives_newer}
 use Rattle.script_meaning.proofs.Extending.{told, committed_so}
 use Rattle.script_meaning.proofs.FittingViews.{given, seen-latest, attached-kinds, leaving-are}
 use Rattle.script_meaning.proofs.KeptKinds.{if-some, kept-seen, seen-kept}
-use Rattle.script_meaning.proofs.LineOrder.{cell-seen}
-use Rattle.script_meaning.proofs.LineAnswers.{single-seen}
 use Rattle.script_meaning.proofs.ReachableWorlds.{fits_at, found_at_number}
 use Rattle.script_meaning.proofs.Recording.{staged-changed}
 use Rattle.script_meaning.proofs.Replies.{kept-stands, number-small}
-use Rattle.script_meaning.proofs.TurnCases.{fitting, sees-so, kept-kind, acquire_turn, resync_turn, release_turn, committed, commit_turn}
-
--- ---- the one cell of an INTEGER variable without dimensions
-
-no-key : {A : Type 0} (slot : ℕ) (slots : List ℕ) (cell : Cell) (rest : Cells) → list_all (is_pair_of 0 Integer) ((slot ∷ slots, cell) ∷ rest) ≡ true → A
-no-key slot slots cell rest pairs =
-    let first = (and_parts (is_pair_of 0 Integer (slot ∷ slots, cell)) (list_all (is_pair_of 0 Integer) rest) pairs).0 in
-    let key = (and_parts ((length (slot ∷ slots) == 0) && list_all (λ one. nat_lt one 65536) (slot ∷ slots)) (is_of_kind Integer cell) first).0 in
-    let none : length (slot ∷ slots) ≡ 0 = eqb-true (length (slot ∷ slots)) 0 (and_parts (length (slot ∷ slots) == 0) (list_all (λ one. nat_lt one 65536) (slot ∷ slots)) key).0 in
-    absurd (omega (arith, none))
-
-put-one : (cell : Cell) (cells : Cells) → is_sorted by_slots cells ≡ true → list_all (is_pair_of 0 Integer) cells ≡ true → put by_slots [] cell cells ≡ ([], cell) ∷ []
-put-one cell [] sorted pairs = refl
-put-one cell ((slot ∷ slots, old) ∷ rest) sorted pairs = no-key slot slots old rest pairs
-put-one cell (([], old) ∷ []) sorted pairs = refl
-put-one cell (([], old) ∷ ([], other) ∷ rest) sorted pairs = cc
-put-one cell (([], old) ∷ (slot ∷ slots, other) ∷ rest) sorted pairs =
-    no-key slot slots other rest (and_parts (is_pair_of 0 Integer ([], old)) (list_all (is_pair_of 0 Integer) ((slot ∷ slots, other) ∷ rest)) pairs).1
-
-contents-of : (slots : ℕ) (kind : Kind) (value : ℤ) (cells : Cells) → slots ≡ 0 → kind ≡ Integer → cells ≡ one_cell value → Var (record { slots = slots; kind = kind; cells = cells }) ≡ holding value
-contents-of slots kind value cells no_slots integer is =
-    ap (λ (n : ℕ). Var (record { slots = n; kind = kind; cells = cells })) no_slots ∙ ap (λ (k : Kind). Var (record { slots = 0; kind = k; cells = cells })) integer ∙ ap (λ (those : Cells). Var (record { slots = 0; kind = Integer; cells = those })) is
-
-holding-applied : (body : Body) (value : ℤ) → IsOf (Variable Integer []) body → applied body (CellPatch (one_cell value)) ≡ holding value
-holding-applied (Dim values) value it = absurd it.form
-holding-applied (Rel contents) value it = absurd it.form
-holding-applied (Set slots) value it = absurd it.form
-holding-applied (Var contents) value it =
-    let pairs : list_all (is_pair_of 0 Integer) contents.cells ≡ true = subst (λ (kind : Kind). list_all (is_pair_of 0 kind) contents.cells ≡ true) it.form.1 (subst (λ (slots : ℕ). list_all (is_pair_of slots contents.kind) contents.cells ≡ true) it.form.0 it.valid.pairs) in
-    contents-of contents.slots contents.kind value (put by_slots [] (Int value) contents.cells) it.form.0 it.form.1 (put-one (Int value) contents.cells it.valid.map.rising pairs)
+use Rattle.script_meaning.proofs.TurnCases.{fitting, kept-kind, acquire_turn, resync_turn, release_turn, committed, commit_turn}
 
 -- ---- what is handed over
 
@@ -137,10 +96,6 @@ handed-at bodies w (object ∷ objects) at stands = by_test (object == at) refl 
 
 -- ---- small steps
 
-is_at-some : (found : Option ℕ) (place : ℕ) → is_at found place ≡ true → found ≡ Some place
-is_at-some None place is = absurd (true≢false (sym is))
-is_at-some (Some at) place is = ap Some (eqb-true at place is)
-
 given-up : (owner : Option ℕ) (who : ℕ) → cond (not (elim owner as (λ _. Bool) [ None ↦ false | Some by ↦ by == who ])) owner None ≡ cond (is_at owner who) None owner
 given-up None who = refl
 given-up (Some by) who = by_test (by == who)
@@ -167,13 +122,13 @@ module _ (coming : List Outcome) (definitions : List Def) (names : List (List �
   bodies = bodies_of shared.definitions
 
   abbrev pub MovesTo : Command → Turn HistoryDisk → Type 0
-  MovesTo own t = Moves definitions own disk s view t
+  MovesTo own t = Moves own disk s view t
 
   abbrev pub MovesTurn : Command → Turn Workspace → Type 0
   MovesTurn own t = MovesTo own (unwritten_turn disk t)
 
   abbrev MovesOne : Command → Workspace → ℕ → ObjectView → ObjectView → Type 0
-  MovesOne own after object old new = MovesBy definitions own shared after object old new
+  MovesOne own after object old new = MovesBy own shared after object old new
 
   good : (object : ℕ) (found : ObjectView) → object_of view object ≡ Some found → IsGood found
   good object found there = if-some IsGood (object_of view object) found there (goods shared s.who view (fitting definitions names sessions shared s fits own_place view attached) object)
@@ -197,7 +152,7 @@ module _ (coming : List Outcome) (definitions : List Def) (names : List (List �
   }))
 
   -- the session stays as it is
-  pub stays : (own : Command) (answer : Answer) → is_refusal answer ≡ false → moves_view own ≡ true → ((object : ℕ) (found : ObjectView) → object_of view object ≡ Some found → found ≡ seen_after definitions shared object own found) → MovesTurn own (record { answer = answer; session = s; shared = shared })
+  pub stays : (own : Command) (answer : Answer) → is_refusal answer ≡ false → moves_view own ≡ true → ((object : ℕ) (found : ObjectView) → object_of view object ≡ Some found → found ≡ seen_after shared object own found) → MovesTurn own (record { answer = answer; session = s; shared = shared })
   stays own answer done other same = inr (inr (record {
     done = done;
     other = other;
@@ -208,46 +163,6 @@ module _ (coming : List Outcome) (definitions : List Def) (names : List (List �
     each = λ object found there. (found, there, record { sees = same object found there; generation = inl (record { none_added = refl; number = refl; body = refl }) });
   }))
 
-  -- ---- an assignment
-
-  module _ (name : List ℕ) (value : ℤ) where
-    abbrev assigning : Command
-    assigning = command.Assign name value
-
-    assigned_one : (object : ℕ) → definition.object_of definitions name ≡ Some object → is_single_at definitions object ≡ true → (at : ℕ) (found : ObjectView) → object_of view at ≡ Some found → (test : Bool) → (object == at) ≡ test → MovesOne assigning shared at found (cond test (rule.with_cells (one_cell value) found) found)
-    assigned_one object place single at found there test is = by_test test is
-      where
-        assigns-so : (test : Bool) → (object == at) ≡ test → assigns definitions at name ≡ (test && is_single_at definitions at)
-        assigns-so test is = ap (λ (found : Option ℕ). is_at found at && is_single_at definitions at) place ∙ ap (λ (b : Bool). b && is_single_at definitions at) is
-
-        after : Bool → ObjectView
-        after test = cond test (record found { private = holding value }) found
-
-        by_test : (test : Bool) → (object == at) ≡ test → MovesOne assigning shared at found (cond test (rule.with_cells (one_cell value) found) found)
-        by_test false is = record { sees = sym (ap after (assigns-so false is)); generation = inl (record { none_added = refl; number = refl; body = refl }) }
-        by_test true is =
-            let single_at : is_single_at definitions at ≡ true = sym (ap (is_single_at definitions) (eqb-true object at is)) ∙ single in
-            let kept = subst (λ (those : List Def). object_in (kept_kinds those) at ≡ Some found.kind) fits.definitions_are (kept-kind definitions names sessions shared s fits own_place view attached at found there) in
-            let kind = single-kind definitions at found.kind single_at kept in
-            let holds = holding-applied found.private value (subst (λ (kind : DefKind). IsOf kind found.private) kind (good at found there).forms.private) in
-            record {
-              sees = ap (λ (body : Body). let o : ObjectView = record found { private = body } in o) holds ∙ sym (ap after (assigns-so true is ∙ single_at));
-              generation = inl (record { none_added = refl; number = refl; body = refl });
-            }
-
-    assign_moves : MovesTo assigning (turn (by_history coming) definitions names disk s assigning)
-    assign_moves =
-        located_cell-cases (λ r. MovesTo assigning (turn_from (by_history coming) definitions names disk (kept_waiting assigning (elim r [ Err refusal ↦ (Said (Refused refusal), s) | Ok object ↦ (Said Done, with_cell s object (Int value)) ])))) definitions s name (λ refusal its. quiet assigning refusal)
-        (λ object place single it. each_moves assigning Done shared (only object (rule.with_cells (one_cell value))) (with_cell s object (Int value)) refl refl (ap (option_map (λ (one : ViewState). rule.written one object (one_cell value))) attached) refl (λ at found. kind-cond (object == at) (rule.with_cells (one_cell value) found) found refl) (λ at found there. assigned_one object place single at found there (object == at) refl))
-
-  -- ---- SHOW
-
-  show_moves : (name : List ℕ) → MovesTo (command.Show name) (turn (by_history coming) definitions names disk s (command.Show name))
-  show_moves name =
-      let own : Command = command.Show name in
-      located_cell-cases (λ r. MovesTo own (turn_from (by_history coming) definitions names disk (kept_waiting own (elim r [ Err refusal ↦ (Said (Refused refusal), s) | Ok object ↦ (Said (Shown (cell_in s object)), s) ])))) definitions s name (λ refusal its. quiet own refusal)
-      (λ object place single it. stays own (Shown (cell_in s object)) refl refl (λ object found there. refl))
-
   -- ---- a command of a session that is attached
 
   abbrev pub Begun_as : Command → Begun × Session → Type 0
@@ -255,6 +170,37 @@ module _ (coming : List Outcome) (definitions : List Def) (names : List (List �
 
   abbrev pub ByView : Command → Option ViewState → Type 0
   ByView own those = Begun_as own (elim those [ None ↦ (Said (Refused not_attached), s) | Some one ↦ sharing s one own ])
+
+  -- ---- an assignment, MAINTAIN, SHOW
+
+  -- an object's private or staged bodies alone change
+  keeps_one : (own : Command) (change : ObjectView → ObjectView) → ((found : ObjectView) → (change found).number ≡ found.number) → ((found : ObjectView) → (change found).base ≡ found.base) → (at : ℕ) (found : ObjectView) (test : Bool) → KeepsGeneration shared shared at found (cond test (change found) found)
+  keeps_one own change number base at found true = record { none_added = refl; number = number found; body = base found }
+  keeps_one own change number base at found false = record { none_added = refl; number = refl; body = refl }
+
+  abbrev Write_as : ℕ → Cells → Option ViewState → Type 0
+  Write_as object cells those = Begun_as (command.Write object cells) (elim those [ None ↦ (Said (Refused not_attached), s) | Some one ↦ write_asked definitions s one object cells ])
+
+  write_moves : (object : ℕ) (cells : Cells) → Write_as object cells (Some view)
+  write_moves object cells = by (nat_le (rule.private_pages (rule.written view object cells) object) 65536)
+    where
+      own : Command
+      own = command.Write object cells
+
+      by : (few : Bool) → Begun_as own (cond few (Said Done, record s { view = Some (rule.written view object cells) }) (Said (Refused (full (name_of definitions object))), s))
+      by false = quiet own (full (name_of definitions object))
+      by true =
+          each_moves own Done shared (only object (rule.with_cells cells)) (record s { view = Some (rule.written view object cells) }) refl refl refl refl (λ at found. kind-cond (object == at) (rule.with_cells cells found) found refl)
+          (λ at found there. record { sees = refl; generation = inl (keeps_one own (rule.with_cells cells) (λ one. refl) (λ one. refl) at found (object == at)) })
+
+  maintain_moves : (object : ℕ) (values : DimensionState) → ByView (command.Maintain object values) (Some view)
+  maintain_moves object values =
+      let own : Command = command.Maintain object values in
+      each_moves own Done shared (only object (rule.with_values values)) (record s { view = Some (rule.maintained view object values) }) refl refl refl refl (λ at found. kind-cond (object == at) (rule.with_values values found) found refl)
+      (λ at found there. record { sees = refl; generation = inl (keeps_one own (rule.with_values values) (λ one. refl) (λ one. refl) at found (object == at)) })
+
+  show_moves : (cell : Cell) → ByView (command.Show cell) (Some view)
+  show_moves cell = stays (command.Show cell) (Shown cell) refl refl (λ object found there. refl)
 
   -- ---- ACQUIRE, RESYNC
 
@@ -542,25 +488,9 @@ module _ (coming : List Outcome) (definitions : List Def) (names : List (List �
   moves_on_disk (command.Revert objects) ready = of_view (command.Revert objects) (revert_moves objects)
   moves_on_disk (command.Update objects) ready = of_view (command.Update objects) (update_moves objects (if-some (λ (one : ViewState). AreOwned one objects) s.view view attached ready))
   moves_on_disk command.Commit ready = commit_moves
-  moves_on_disk (command.Assign name value) ready = assign_moves name value
-  moves_on_disk (command.Show name) ready = show_moves name
-
-  -- ---- SHOW
-
-  -- the one cell of such a variable is read as it is
-  cell-shown : (object : ℕ) (found : ObjectView) → object_of view object ≡ Some found → found.kind ≡ Variable Integer [] → cell_in s object ≡ rule.cell_in found.private []
-  cell-shown object found there kind =
-      ap (λ (seen : Option ViewState). cell_in (record s { view = seen }) object) attached
-      ∙ ap (λ (seen : Option ObjectView). elim seen as (λ _. Cell) [ None ↦ Na | Some one ↦ rule.reached_by view one.kind (rule.cell_in one.private []) ]) there
-      ∙ ap (λ (kind : DefKind). rule.reached_by view kind (rule.cell_in found.private [])) kind
-
-  pub shows : (name : List ℕ) (object : ℕ) → NamesSingle definitions name object → IsShown disk s view object (turn (by_history coming) definitions names disk s (command.Show name))
-  shows name object named =
-      let it = single-seen definitions names sessions disk s fits own_place view attached object named.1 in
-      let kept = subst (λ (those : List Def). object_in (kept_kinds those) object ≡ Some it.0.kind) fits.definitions_are (kept-kind definitions names sessions disk.state s fits own_place view attached object it.0 it.1) in
-      subst (λ (r : Result ℕ Refusal). IsShown disk s view object (turn_from (by_history coming) definitions names disk (kept_waiting (command.Show name) (elim r [ Err refusal ↦ (Said (Refused refusal), s) | Ok object ↦ (Said (Shown (cell_in s object)), s) ]))))
-      (sym (cell-seen definitions s name object named.0 named.1 (sees-so definitions names sessions disk.state s fits own_place view attached object it.0 it.1)))
-      (record { found = it.0; seen = it.1; answer = ap Shown (cell-shown object it.0 it.1 (single-kind definitions object it.0.kind named.1 kept)); same_session = refl; same_shared = refl })
+  moves_on_disk (command.Write object cells) ready = subst (Write_as object cells) (sym attached) (write_moves object cells)
+  moves_on_disk (command.Maintain object values) ready = of_view (command.Maintain object values) (maintain_moves object values)
+  moves_on_disk (command.Show cell) ready = of_view (command.Show cell) (show_moves cell)
 
 -- ---- AW ATTACH
 
@@ -608,9 +538,6 @@ module _ (coming : List Outcome) (definitions : List Def) (names : List (List �
   abbrev Stays : Command → Begun × Session → Type 0
   Stays own b = IsRefusedTurn (turn_from (by_history coming) definitions names disk (kept_waiting own b))
 
-  unseen : {A : Type 0} (object : ℕ) → Sees s object → A
-  unseen object it = absurd (none-some it.view (sym detached ∙ it.attached))
-
   stays-shared : (own : Command) → Stays own (elim s.view [ None ↦ (Said (Refused not_attached), s) | Some one ↦ sharing s one own ])
   stays-shared own = subst (λ (those : Option ViewState). Stays own (elim those [ None ↦ (Said (Refused not_attached), s) | Some one ↦ sharing s one own ])) (sym detached) (refl, refl)
 
@@ -623,10 +550,10 @@ module _ (coming : List Outcome) (definitions : List Def) (names : List (List �
   stays_detached (command.Revert objects) = inr (stays-shared (command.Revert objects))
   stays_detached (command.Update objects) = inr (stays-shared (command.Update objects))
   stays_detached command.Commit = inr (stays-shared command.Commit)
-  stays_detached (command.Assign name value) =
-      inr (located_cell-cases (λ r. Stays (command.Assign name value) (elim r [ Err refusal ↦ (Said (Refused refusal), s) | Ok object ↦ (Said Done, with_cell s object (Int value)) ])) definitions s name (λ refusal own. (refl, refl)) (λ object place single it. unseen object it))
-  stays_detached (command.Show name) =
-      inr (located_cell-cases (λ r. Stays (command.Show name) (elim r [ Err refusal ↦ (Said (Refused refusal), s) | Ok object ↦ (Said (Shown (cell_in s object)), s) ])) definitions s name (λ refusal own. (refl, refl)) (λ object place single it. unseen object it))
+  stays_detached (command.Write object cells) =
+      inr (subst (λ (those : Option ViewState). Stays (command.Write object cells) (elim those [ None ↦ (Said (Refused not_attached), s) | Some one ↦ write_asked definitions s one object cells ])) (sym detached) (refl, refl))
+  stays_detached (command.Maintain object values) = inr (stays-shared (command.Maintain object values))
+  stays_detached (command.Show cell) = inr (stays-shared (command.Show cell))
 
 -- ---- after any lines
 
@@ -637,7 +564,3 @@ module _ (names : List (List ℕ)) (records : List Decoded) (coming : List Outco
   pub own_commands_move : OwnCommandsMove coming (world_at names records coming events)
   own_commands_move disk who session view is found attached =
       moves_on_disk coming reached.definitions reached.names reached.sessions disk session (fits_at names records coming events can disk is) (found_at_number names records coming events can disk who session is found) view attached
-
-  pub shows_what_is_read : ShowsWhatIsRead coming (world_at names records coming events)
-  shows_what_is_read disk who session view is found attached =
-      shows coming reached.definitions reached.names reached.sessions disk session (fits_at names records coming events can disk is) (found_at_number names records coming events can disk who session is found) view attached

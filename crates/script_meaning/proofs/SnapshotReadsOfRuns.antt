@@ -58,29 +58,29 @@ by_events P none more events = from [] none events
 seen_on-push : (coming : List Outcome) (who object : ℕ) (w : HistoryWorld) (events : List Event) (event : Event) (seen : Option ObjectView) →
     let last = world_after (by_history coming) w events in
     let a = answered (by_history coming) last event in
-    seen_on coming who object w (events ++ event ∷ []) seen ≡ seen_by last.definitions a.world.shared who object (asked_of last event) (is_refused a.answer) (seen_on coming who object w events seen)
+    seen_on coming who object w (events ++ event ∷ []) seen ≡ seen_by a.world.shared who object (asked_of last event) (is_refused a.answer) (seen_on coming who object w events seen)
 seen_on-push coming who object w [] event seen = refl
 seen_on-push coming who object w (one ∷ events) event seen =
     let a = answered (by_history coming) w one in
-    seen_on-push coming who object a.world events event (seen_by w.definitions a.world.shared who object (asked_of w one) (is_refused a.answer) seen)
+    seen_on-push coming who object a.world events event (seen_by a.world.shared who object (asked_of w one) (is_refused a.answer) seen)
 
 and-false : (b : Bool) → (b && false) ≡ false
 and-false true = refl
 and-false false = refl
 
 -- an event of another session, or of none
-seen_by-other : (definitions : List Def) (shared : Option HistoryDisk) (who object : ℕ) (own : Option (ℕ × Asked)) (refused : Bool) → ForSome own (λ it. it.0 ≢ who) → (seen : Option ObjectView) → seen_by definitions shared who object own refused seen ≡ seen
-seen_by-other definitions shared who object None refused differs seen = refl
-seen_by-other definitions shared who object (Some (place, Refused refusal)) refused differs seen = refl
-seen_by-other definitions shared who object (Some (place, Runs own)) refused differs seen =
-    ap (λ (same : Bool). cond (same && not refused) (seen_now definitions shared object own seen) seen) (ne_eqb place who (differs (place, Runs own) refl))
+seen_by-other : (shared : Option HistoryDisk) (who object : ℕ) (own : Option (ℕ × Asked)) (refused : Bool) → ForSome own (λ it. it.0 ≢ who) → (seen : Option ObjectView) → seen_by shared who object own refused seen ≡ seen
+seen_by-other shared who object None refused differs seen = refl
+seen_by-other shared who object (Some (place, Refused refusal)) refused differs seen = refl
+seen_by-other shared who object (Some (place, Runs own)) refused differs seen =
+    ap (λ (same : Bool). cond (same && not refused) (seen_now shared object own seen) seen) (ne_eqb place who (differs (place, Runs own) refl))
 
 -- one that is refused
-seen_by-refused : (definitions : List Def) (shared : Option HistoryDisk) (who object : ℕ) (own : Option (ℕ × Asked)) (seen : Option ObjectView) → seen_by definitions shared who object own true seen ≡ seen
-seen_by-refused definitions shared who object None seen = refl
-seen_by-refused definitions shared who object (Some (place, Refused refusal)) seen = refl
-seen_by-refused definitions shared who object (Some (place, Runs own)) seen =
-    ap (λ (b : Bool). cond b (seen_now definitions shared object own seen) seen) (and-false (place == who))
+seen_by-refused : (shared : Option HistoryDisk) (who object : ℕ) (own : Option (ℕ × Asked)) (seen : Option ObjectView) → seen_by shared who object own true seen ≡ seen
+seen_by-refused shared who object None seen = refl
+seen_by-refused shared who object (Some (place, Refused refusal)) seen = refl
+seen_by-refused shared who object (Some (place, Runs own)) seen =
+    ap (λ (b : Bool). cond b (seen_now shared object own seen) seen) (and-false (place == who))
 
 -- what is asked is asked of the session of the event
 under-holds : (w : HistoryWorld) (P : ℕ → Type 0) (own : Option (ℕ × Written)) → ForSome own (λ it. P it.0) → ForSome (asked_under w own) (λ it. P it.0)
@@ -111,17 +111,18 @@ push-seen object (y ∷ sessions) x detached zero = refl
 push-seen object (y ∷ sessions) x detached (suc who) = push-seen object sessions x detached who
 
 -- by a command that moves what is seen
-moved-now : (definitions : List Def) (disk : HistoryDisk) (object : ℕ) (own : Command) (seen : Option ObjectView) → moves_view own ≡ true → seen_now definitions (Some disk) object own seen ≡ option_map (seen_after definitions disk.state object own) seen
-moved-now definitions disk object (command.Attach mode) seen is = absurd (true≢false (sym is))
-moved-now definitions disk object command.Detach seen is = absurd (true≢false (sym is))
-moved-now definitions disk object (command.Acquire keep fresh same) seen is = refl
-moved-now definitions disk object (command.Resync objects) seen is = refl
-moved-now definitions disk object (command.Release objects) seen is = refl
-moved-now definitions disk object (command.Revert objects) seen is = refl
-moved-now definitions disk object (command.Update objects) seen is = refl
-moved-now definitions disk object command.Commit seen is = refl
-moved-now definitions disk object (command.Assign name value) seen is = refl
-moved-now definitions disk object (command.Show name) seen is = refl
+moved-now : (disk : HistoryDisk) (object : ℕ) (own : Command) (seen : Option ObjectView) → moves_view own ≡ true → seen_now (Some disk) object own seen ≡ option_map (seen_after disk.state object own) seen
+moved-now disk object (command.Attach mode) seen is = absurd (true≢false (sym is))
+moved-now disk object command.Detach seen is = absurd (true≢false (sym is))
+moved-now disk object (command.Acquire keep fresh same) seen is = refl
+moved-now disk object (command.Resync objects) seen is = refl
+moved-now disk object (command.Release objects) seen is = refl
+moved-now disk object (command.Revert objects) seen is = refl
+moved-now disk object (command.Update objects) seen is = refl
+moved-now disk object command.Commit seen is = refl
+moved-now disk object (command.Write at cells) seen is = refl
+moved-now disk object (command.Maintain at values) seen is = refl
+moved-now disk object (command.Show cell) seen is = refl
 
 answer-refused : (given : Answer) → is_refused (Some (answer_of given)) ≡ is_refusal given
 answer-refused answer.Done = refl
@@ -135,25 +136,25 @@ module _ (coming : List Outcome) (definitions : List Def) (names : List (List �
   t = turn (by_history coming) definitions names disk s own
 
   abbrev Sees : Type 0
-  Sees = seen_in t.session object ≡ cond (not (is_refusal t.answer)) (seen_now definitions (Some t.shared) object own (seen_in s object)) (seen_in s object)
+  Sees = seen_in t.session object ≡ cond (not (is_refusal t.answer)) (seen_now (Some t.shared) object own (seen_in s object)) (seen_in s object)
 
   -- where it isn't refused
-  accepted : is_refusal t.answer ≡ false → cond (not (is_refusal t.answer)) (seen_now definitions (Some t.shared) object own (seen_in s object)) (seen_in s object) ≡ seen_now definitions (Some t.shared) object own (seen_in s object)
-  accepted done = ap (λ (b : Bool). cond (not b) (seen_now definitions (Some t.shared) object own (seen_in s object)) (seen_in s object)) done
+  accepted : is_refusal t.answer ≡ false → cond (not (is_refusal t.answer)) (seen_now (Some t.shared) object own (seen_in s object)) (seen_in s object) ≡ seen_now (Some t.shared) object own (seen_in s object)
+  accepted done = ap (λ (b : Bool). cond (not b) (seen_now (Some t.shared) object own (seen_in s object)) (seen_in s object)) done
 
   still-sees : is_refusal t.answer ≡ true → t.session ≡ s → Sees
   still-sees refused same =
-      ap (λ (it : Session). seen_in it object) same ∙ sym (ap (λ (b : Bool). cond (not b) (seen_now definitions (Some t.shared) object own (seen_in s object)) (seen_in s object)) refused)
+      ap (λ (it : Session). seen_in it object) same ∙ sym (ap (λ (b : Bool). cond (not b) (seen_now (Some t.shared) object own (seen_in s object)) (seen_in s object)) refused)
 
   module _ (view : ViewState) (attached : s.view ≡ Some view) where
     detached-sees : HasDetached own disk s t → Sees
     detached-sees it =
-        ap (seen_with object) it.detached ∙ sym (accepted (ap is_refusal it.done) ∙ ap (λ (c : Command). seen_now definitions (Some t.shared) object c (seen_in s object)) it.by_detach)
+        ap (seen_with object) it.detached ∙ sym (accepted (ap is_refusal it.done) ∙ ap (λ (c : Command). seen_now (Some t.shared) object c (seen_in s object)) it.by_detach)
 
-    moved-sees : HasMoved definitions own disk s view t → Sees
+    moved-sees : HasMoved own disk s view t → Sees
     moved-sees it =
         ap (seen_with object) it.attached ∙ by_seen (object_of view object) refl
-        ∙ sym (accepted it.done ∙ moved-now definitions t.shared object own (seen_in s object) it.other ∙ ap (λ (those : Option ViewState). option_map (seen_after definitions t.shared.state object own) (seen_with object those)) attached)
+        ∙ sym (accepted it.done ∙ moved-now t.shared object own (seen_in s object) it.other ∙ ap (λ (those : Option ViewState). option_map (seen_after t.shared.state object own) (seen_with object those)) attached)
       where
         none-after : (after : Option ObjectView) → object_of it.view_after object ≡ after → object_of view object ≡ None → after ≡ None
         none-after None is none = refl
@@ -161,16 +162,16 @@ module _ (coming : List Outcome) (definitions : List Def) (names : List (List �
             let old = seen-before it.view_after view object one it.kinds is in
             absurd (none-some old.0 (sym none ∙ old.1))
 
-        by_seen : (found : Option ObjectView) → object_of view object ≡ found → object_of it.view_after object ≡ option_map (seen_after definitions t.shared.state object own) (object_of view object)
-        by_seen None none = none-after (object_of it.view_after object) refl none ∙ sym (ap (option_map (seen_after definitions t.shared.state object own)) none)
+        by_seen : (found : Option ObjectView) → object_of view object ≡ found → object_of it.view_after object ≡ option_map (seen_after t.shared.state object own) (object_of view object)
+        by_seen None none = none-after (object_of it.view_after object) refl none ∙ sym (ap (option_map (seen_after t.shared.state object own)) none)
         by_seen (Some old) there =
             let new = it.each object old there in
-            new.1 ∙ ap Some new.2.sees ∙ sym (ap (option_map (seen_after definitions t.shared.state object own)) there)
+            new.1 ∙ ap Some new.2.sees ∙ sym (ap (option_map (seen_after t.shared.state object own)) there)
 
   attached-sees : s.view ≡ None → (mode : Mode) → own ≡ command.Attach mode → Attaches disk mode t → Sees
   attached-sees detached mode is it =
       ap (seen_with object) it.attached ∙ it.each object
-      ∙ sym (accepted (ap is_refusal it.answer) ∙ ap (λ (c : Command). seen_now definitions (Some t.shared) object c (seen_in s object)) is ∙ ap (λ (those : HistoryDisk). first_seen those.state object) it.shared)
+      ∙ sym (accepted (ap is_refusal it.answer) ∙ ap (λ (c : Command). seen_now (Some t.shared) object c (seen_in s object)) is ∙ ap (λ (those : HistoryDisk). first_seen those.state object) it.shared)
 
   attaches : s.view ≡ None → (mode : Mode) → own ≡ command.Attach mode → Attaches disk mode t
   attaches detached mode is =
@@ -190,7 +191,7 @@ module _ (coming : List Outcome) (definitions : List Def) (names : List (List �
 module _ (coming : List Outcome) (w : HistoryWorld) (event : Event) (who object : ℕ) where
   abbrev Step : Answered language HistoryDisk → Type 0
   Step a =
-      seen_at a.world who object ≡ seen_by w.definitions a.world.shared who object (asked_of w event) (is_refused a.answer) (seen_at w who object)
+      seen_at a.world who object ≡ seen_by a.world.shared who object (asked_of w event) (is_refused a.answer) (seen_at w who object)
 
   rests-seen : (after : HistoryWorld) → Rests (by_history coming) w after → seen_at after who object ≡ seen_at w who object
   rests-seen after rests =
@@ -199,7 +200,7 @@ module _ (coming : List Outcome) (w : HistoryWorld) (event : Event) (who object 
   -- of none of the session's own lines
   still : ForSome (session_of w event) (λ it. it.0 ≢ who) → (a : Answered language HistoryDisk) → seen_at a.world who object ≡ seen_at w who object → Step a
   still differs a same =
-      same ∙ sym (seen_by-other w.definitions a.world.shared who object (asked_of w event) (is_refused a.answer) (under-holds w (λ place. place ≢ who) (session_of w event) differs) (seen_at w who object))
+      same ∙ sym (seen_by-other a.world.shared who object (asked_of w event) (is_refused a.answer) (under-holds w (λ place. place ≢ who) (session_of w event) differs) (seen_at w who object))
 
 module _ (names : List (List ℕ)) (records : List Decoded) (coming : List Outcome) (events : List Event) (event : Event) (can : CanBeOpened records) (who object : ℕ) where
   abbrev w : HistoryWorld
@@ -224,19 +225,18 @@ module _ (names : List (List ℕ)) (records : List Decoded) (coming : List Outco
     abbrev mine : Turn HistoryDisk
     mine = turn (by_history coming) after.definitions after.names disk s own
 
-    abbrev seen_so : List Def → Bool → Bool → Option ObjectView → Option ObjectView
-    seen_so definitions same refused seen = cond (same && not refused) (seen_now definitions (Some mine.shared) object own seen) seen
+    abbrev seen_so : Bool → Bool → Option ObjectView → Option ObjectView
+    seen_so same refused seen = cond (same && not refused) (seen_now (Some mine.shared) object own seen) seen
 
     own_turn : IsReady s own → Now (with_turn after who mine)
     own_turn ready =
         ap (option_and_then (λ (session : Session). seen_in session object)) (slice_get-set_same after.sessions who s mine.session found_here)
         ∙ turn_sees coming after.definitions after.names after.sessions disk s fits by_number own ready object
         ∙ sym (
-        ap (λ (it : Option (ℕ × Asked)). seen_by w.definitions (Some mine.shared) who object it (is_refused (Some (answer_of mine.answer))) (seen_at w who object)) is
-        ∙ ap (λ (same : Bool). seen_so w.definitions same (is_refused (Some (answer_of mine.answer))) (seen_at w who object)) (eq-eqb who who refl)
-        ∙ ap (λ (refused : Bool). seen_so w.definitions true refused (seen_at w who object)) (answer-refused mine.answer)
-        ∙ ap (λ (d : List Def). seen_so d true (is_refusal mine.answer) (seen_at w who object)) (sym rests.definitions)
-        ∙ ap (seen_so after.definitions true (is_refusal mine.answer)) (sym (rests-seen coming w event who object after rests) ∙ ap (option_and_then (λ (session : Session). seen_in session object)) found_here))
+        ap (λ (it : Option (ℕ × Asked)). seen_by (Some mine.shared) who object it (is_refused (Some (answer_of mine.answer))) (seen_at w who object)) is
+        ∙ ap (λ (same : Bool). seen_so same (is_refused (Some (answer_of mine.answer))) (seen_at w who object)) (eq-eqb who who refl)
+        ∙ ap (λ (refused : Bool). seen_so true refused (seen_at w who object)) (answer-refused mine.answer)
+        ∙ ap (seen_so true (is_refusal mine.answer)) (sym (rests-seen coming w event who object after rests) ∙ ap (option_and_then (λ (session : Session). seen_in session object)) found_here))
 
   module _ (after : HistoryWorld) (name : List ℕ) (place : ℕ) (taken_up : after ≡ with_session (closed (by_history coming).opens w) name) (rests : Rests (by_history coming) w after) (may : MayTurn (by_history coming) after place (shared_of (by_history coming).opens w)) where
     abbrev disk : HistoryDisk
@@ -282,10 +282,10 @@ module _ (names : List (List ℕ)) (records : List Decoded) (coming : List Outco
         other : place ≢ who → seen_of object (slice_set after.sessions place (own_session after place)) who ≡ seen_of object after.sessions who
         other differs = ap (option_and_then (λ (session : Session). seen_in session object)) (slice_get-set_other after.sessions place who (own_session after place) (λ same. differs (sym same)))
 
-    by_asked : (written : Written) → session_of w event ≡ Some (place, written) → (a : Asked) → asked_of w event ≡ Some (place, a) → IsReadyFor (own_session after place) a → Now (settled (by_history coming) (begun_so after disk place (begin_asked after.definitions (own_session after place) a)))
+    by_asked : (written : Written) → session_of w event ≡ Some (place, written) → (a : Asked) → asked_of w event ≡ Some (place, a) → IsReadyFor after.definitions (own_session after place) a → Now (settled (by_history coming) (begun_so after disk place (begin_asked after.definitions (own_session after place) a)))
     by_asked written of_session (Refused refusal) is ready =
         put-back ∙ rests-seen coming w event who object after rests
-        ∙ sym (ap (λ (it : Option (ℕ × Asked)). seen_by w.definitions after.shared who object it true (seen_at w who object)) is)
+        ∙ sym (ap (λ (it : Option (ℕ × Asked)). seen_by after.shared who object it true (seen_at w who object)) is)
     by_asked written of_session (Runs own) is ready = subst Now (sym (commanded-turn (by_history coming) after place disk may.open_so own)) (⊎_elim mine_so other (cases_eq place who))
       where
         mine_so : place ≡ who → Now (with_turn after place (turn (by_history coming) after.definitions after.names disk (own_session after place) own))
@@ -307,7 +307,7 @@ module _ (names : List (List ℕ)) (records : List Decoded) (coming : List Outco
     passes = λ after none rests. still coming w event who object (of_none none) (silent after) (rests-seen coming w event who object after rests);
     defines = λ lines definitions of_no none is. still coming w event who object (of_none of_no) (silent (with_definitions w definitions)) refl;
     refuses = λ after prefix refusal far why rests.
-        rests-seen coming w event who object after rests ∙ sym (seen_by-refused w.definitions after.shared who object (asked_of w event) (seen_at w who object));
+        rests-seen coming w event who object after rests ∙ sym (seen_by-refused after.shared who object (asked_of w event) (seen_at w who object));
     turns = λ after name place statement taken_up own rests may. by_statement after name place taken_up rests may statement own;
   })
 
@@ -331,7 +331,7 @@ module _ (names : List (List ℕ)) (records : List Decoded) (coming : List Outco
   sees_its_own = by_events (λ events. SeesItsOwn names records coming events) sees_none (λ events event sees who object.
       let a = answered (by_history coming) (at events) event in
       ap (λ (those : HistoryWorld). seen_at those who object) (at-push events event) ∙ sees_event names records coming events event can who object
-      ∙ ap (seen_by (at events).definitions a.world.shared who object (asked_of (at events) event) (is_refused a.answer)) (sees who object) ∙ sym (seen_on-push coming who object (opening names records) events event None))
+      ∙ ap (seen_by a.world.shared who object (asked_of (at events) event) (is_refused a.answer)) (sees who object) ∙ sym (seen_on-push coming who object (opening names records) events event None))
 
 -- ---- who owns what
 
@@ -388,7 +388,7 @@ module _ (names : List (List ℕ)) (records : List Decoded) (coming : List Outco
       let a = answered (by_history coming) w event in
       let same : seen_at last who object ≡ seen_at w who object =
       ap (λ (those : HistoryWorld). seen_at those who object) pushed ∙ sees_event names records coming events event can who object
-      ∙ seen_by-other w.definitions a.world.shared who object (asked_of w event) (is_refused a.answer) (under-holds w (λ place. place ≢ who) (session_of w event) differs) (seen_at w who object) in (
+      ∙ seen_by-other a.world.shared who object (asked_of w event) (is_refused a.answer) (under-holds w (λ place. place ≢ who) (session_of w event) differs) (seen_at w who object) in (
         λ own. sees-owner w.definitions w.sessions before.state then_fits who object (ap owned_in (sym same) ∙ owner-sees last.definitions last.sessions after.state now_fits who object own),
         λ own. sees-owner last.definitions last.sessions after.state now_fits who object (ap owned_in same ∙ owner-sees w.definitions w.sessions before.state then_fits who object own),
       )

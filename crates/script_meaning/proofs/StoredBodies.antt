@@ -71,7 +71,7 @@ changes-pairs slots kind (change ∷ changes) are all =
     let first = All-head IsKeyedCell change changes all in
     ((and_from (length change.0 == slots) (list_all (λ slot. nat_lt slot 65536) change.0) shape.0 (slots_all change.0 first.0), shape.1), changes-pairs slots kind changes parts.1 (All-tail IsKeyedCell change changes all))
 
-variable-overwritten : (contents : Contents) (changes : Cells) → IsVariable contents → AreChangesOf contents changes → All IsKeyedCell changes → IsVariable (record contents { cells = cells.overwritten contents.cells changes })
+pub variable-overwritten : (contents : Contents) (changes : Cells) → IsVariable contents → AreChangesOf contents changes → All IsKeyedCell changes → IsVariable (record contents { cells = cells.overwritten contents.cells changes })
 variable-overwritten contents changes valid take all = record {
   few = valid.few;
   map = overwritten_map contents.cells changes valid.map;
@@ -79,7 +79,7 @@ variable-overwritten contents changes valid take all = record {
       (pairs-overwritten (IsKeyOf contents.slots) (IsCellOf contents.kind) contents.cells changes (pairs-variable contents.slots contents.kind contents.cells valid.pairs) (changes-pairs contents.slots contents.kind changes take all));
 }
 
-keyed-overwritten : (contents changes : Cells) → All IsKeyedCell contents → All IsKeyedCell changes → All IsKeyedCell (cells.overwritten contents changes)
+pub keyed-overwritten : (contents changes : Cells) → All IsKeyedCell contents → All IsKeyedCell changes → All IsKeyedCell (cells.overwritten contents changes)
 keyed-overwritten contents changes all more =
     keyed-pairs (cells.overwritten contents changes) (pairs-overwritten IsKey IsSpelled contents changes (pairs-keyed contents all) (pairs-keyed changes more))
 

@@ -14,7 +14,7 @@ ghost use Rattle.script_world.specs.Worlds.{Event};
 ghost use Rattle.script_meaning.specs.AcquireAnswers.{AcquiresAreAnswered};
 ghost use Rattle.script_meaning.specs.ObjectsSimulation.{AreAlike};
 ghost use Rattle.script_meaning.specs.AllDone.{IsAsWithNone};
-ghost use Rattle.script_meaning.specs.LineAnswers.{AssignmentsAreDone, IsOneLine, LinesAreAnswered, OthersAreRefused, SharingGoesAhead};
+ghost use Rattle.script_meaning.specs.LineAnswers.{AssignmentsAreDone, AssignmentsHaveTargets, IntegersAreAssigned, IsOneLine, LinesAreAnswered, SharingGoesAhead, SinglesAreDone, SinglesAreShown};
 ghost use Rattle.script_meaning.specs.CommitFaults.{is_fault, fault_answer};
 ghost use Rattle.script_meaning.specs.CrashRuns.{LeavesARunOf, LeavesWhatOpens};
 ghost use Rattle.script_meaning.specs.DefinitionAnswers.{BlocksAreOpen, DefinitionsAreAnswered};
@@ -64,16 +64,22 @@ pub fn acquires_are_answered()
     ensures { (names : List (List ℕ)) (records : List Decoded) (coming : List Outcome) (events : List Event) → CanBeOpened records → AcquiresAreAnswered coming (world_at names records coming events) }
 {}
 
-/// What a session sees of an object is its own: the latest generation when it attached, and what its
-/// own commands made of that since. An assignment changes what it reads, UPDATE stages that, REVERT
-/// gives back what was staged, RESYNC and ACQUIRE with RESYNC give the latest generation, COMMIT makes
-/// what is staged the base, and AW DETACH drops it all. Ownership comes by ACQUIRE alone, and goes by
-/// RELEASE of an object of which nothing is staged, by COMMIT of one that is leaving, and by AW DETACH.
-/// See docs/SHARING.md, 'What is proved'.
+/// What a session sees of an object is its own: the latest generation when it attached, and what
+/// its own commands made of that since. An assignment changes the cells that its expression gives
+/// of what it reads of one object, MAINTAIN what it stages and reads of one dimension, and SHOW,
+/// which shows what its expression comes to by what the session reads, changes nothing: the name of
+/// a variable without dimensions shows its one cell, and an INTEGER that is assigned to such a one
+/// is that cell. UPDATE stages what is read, REVERT gives back what was staged, RESYNC and ACQUIRE
+/// with RESYNC give the latest generation, COMMIT makes what is staged the base, and AW DETACH
+/// drops it all. Ownership comes by ACQUIRE alone, and goes by RELEASE of an object of which
+/// nothing is staged, by COMMIT of one that is leaving, and by AW DETACH. See docs/SHARING.md,
+/// 'What is proved'.
 pub fn sessions_read_their_own()
     ensures attached { (coming : List Outcome) → AttachGivesLatest coming }
     ensures moved { (names : List (List ℕ)) (records : List Decoded) (coming : List Outcome) (events : List Event) → CanBeOpened records → OwnCommandsMove coming (world_at names records coming events) }
-    ensures shown { (names : List (List ℕ)) (records : List Decoded) (coming : List Outcome) (events : List Event) → CanBeOpened records → ShowsWhatIsRead coming (world_at names records coming events) }
+    ensures shown { (coming : List Outcome) → ShowsWhatIsRead coming }
+    ensures named { (names : List (List ℕ)) (records : List Decoded) (coming : List Outcome) (events : List Event) → CanBeOpened records → SinglesAreShown (world_at names records coming events) }
+    ensures integer { IntegersAreAssigned }
     ensures since { (names : List (List ℕ)) (records : List Decoded) (coming : List Outcome) (events : List Event) → CanBeOpened records → SeesItsOwn names records coming events }
     ensures owned { (names : List (List ℕ)) (records : List Decoded) (coming : List Outcome) (events : List Event) (event : Event) → CanBeOpened records → KeepsOwned coming (world_at names records coming events) event }
 {}
@@ -90,19 +96,26 @@ pub fn lines_keep_other_sessions()
     ensures { (coming : List Outcome) (w : HistoryWorld) (event : Event) → KeepsOthers (by_history coming) w event }
 {}
 
-/// A session's line is refused by the first of these that applies, and leaves the session: its tokens
-/// begin no statement (1); the session isn't attached (15), or for AW ATTACH is (16); it is attached
-/// for reading alone (23); a name is unknown (2), of a wrong kind (3) or comes twice (7); types (4) or
-/// dimensions (5) don't fit, or it weighs too much (14); the session owns an object (20), or doesn't
-/// own it (19); a dimension lacks a fixed value (6); statements of this form don't run yet (1). Else it
-/// is a command. One of an attached session that shows or assigns another object than an INTEGER
-/// variable without dimensions is refused with 1. After any lines of a script an assignment to such a
-/// variable is answered `ok`, and so are UPDATE, REVERT, AW DETACH, RESYNC of objects that the session
-/// sees, and RELEASE of objects that it owns. See docs/LANGUAGE.md, "Refusals".
+/// A session's line is refused by the first of these that applies, and leaves the session: its
+/// tokens begin no statement (1); the session isn't attached (15), or for AW ATTACH is (16); it is
+/// attached for reading alone (23); a name is unknown (2), of a wrong kind (3) or comes twice (7);
+/// types (4) or dimensions (5) don't fit, or it weighs too much (14); the session owns an object
+/// (20), or doesn't own it (19); a dimension lacks a fixed value (6). Then SHOW and an assignment
+/// are evaluated by what the session reads, and refused as that is (8, 9, 10, 14 or 6); a command
+/// that shares the workspace goes on, and statements of any other form don't run yet (1). MAINTAIN
+/// is refused as its change of the values that the session sees is (6, 7 or 22), and else is
+/// answered `ok` and changes what is staged and read of that dimension alone. A SHOW that isn't
+/// refused shows its cell and changes nothing. An assignment is to a variable or a relation that
+/// the session sees. It writes its cells into the private body of that object alone and is answered
+/// `ok`, or is refused with 22 where the object would be on more than 65,536 pages, which after any
+/// lines of a script a variable without dimensions never is. And UPDATE, REVERT, AW DETACH, RESYNC
+/// of objects that the session sees, and RELEASE of objects that it owns are answered `ok`. See
+/// docs/LANGUAGE.md, "Refusals".
 pub fn lines_are_answered_in_order()
     ensures in_order { LinesAreAnswered }
-    ensures others { (coming : List Outcome) → OthersAreRefused coming }
-    ensures assigned { (names : List (List ℕ)) (records : List Decoded) (coming : List Outcome) (events : List Event) → CanBeOpened records → AssignmentsAreDone coming (world_at names records coming events) }
+    ensures targets { (names : List (List ℕ)) (records : List Decoded) (coming : List Outcome) (events : List Event) → CanBeOpened records → AssignmentsHaveTargets (world_at names records coming events) }
+    ensures assigned { (coming : List Outcome) → AssignmentsAreDone coming }
+    ensures single { (names : List (List ℕ)) (records : List Decoded) (coming : List Outcome) (events : List Event) → CanBeOpened records → SinglesAreDone coming (world_at names records coming events) }
     ensures shared { (names : List (List ℕ)) (records : List Decoded) (coming : List Outcome) (events : List Event) → CanBeOpened records → SharingGoesAhead coming (world_at names records coming events) }
 {}
 

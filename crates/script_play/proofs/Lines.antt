@@ -1,5 +1,5 @@
 -- What the parts of a line's answer mean on the machine.
-use Rattle.std.specs.Prelude.{cond, unwrap_or, ◌≡◌, ◌≢◌, ◌≤◌, ◌<◌, ◌++◌, ◌⊎◌, ℕ, zero, suc, min, Bool, true, false, List, [], ◌∷◌, length, map, nat_lt, Option, None, Some, Result, Ok, Err, is_none, if◌then◌else◌, slice_index_or, slice_set, refl}
+use Rattle.std.specs.Prelude.{unwrap_or, ◌≡◌, ◌≢◌, ◌≤◌, ◌<◌, ◌++◌, ◌⊎◌, ℕ, zero, suc, min, Bool, true, false, List, [], ◌∷◌, length, map, nat_lt, Option, None, Some, Result, Ok, Err, is_none, if◌then◌else◌, slice_index_or, slice_set, refl}
 use Rattle.std.specs.Option.{option_map, option_to_list}
 use Rattle.std.proofs.Common.{◌∙◌, ap, ap₂, sym, subst, inl, inr, ⊎_elim, arith, append_assoc, append-nil, length-set, length-append}
 use Rattle.std.proofs.lemmas.Bool.{lt-ltb, le-ltb, ltb-true, ltb-false}
@@ -11,17 +11,13 @@ use Rattle.aw_codec.specs.declared.record.Decoded.TheVariants.{Definitions}
 use Rattle.mv_core.specs.Workspace.{Table}
 use Rattle.aw_store.specs.StoredRecords.{definitions_of}
 use Rattle.aw_store.specs.Stores.{StoreState}
-use Rattle.aw_schema.specs.Definitions.{object_of}
 use Rattle.ses_report.specs.declared.refusal.Refusal.{Refusal}
-use Rattle.ses_report.specs.Refusals.{no_form, not_attached, too_many_sessions}
+use Rattle.ses_report.specs.Refusals.{too_many_sessions}
 use Rattle.ses_step.specs.declared.answer.Answer.{Answer}
 use Rattle.ses_step.specs.Answers.{answer_of}
 use Rattle.ses_step.specs.declared.command.Command.{Command}
 use Rattle.ses_step.specs.declared.command.Command.TheVariants as command
 use Rattle.ses_step.specs.declared.session.Begun.{Begun}
-use Rattle.ses_step.specs.declared.session.Begun.TheVariants.{Said}
-use Rattle.ses_step.specs.declared.answer.Answer.TheVariants.{Done, Shown, Refused}
-use Rattle.aw_cell.specs.declared.cell.Cell.TheVariants.{Int}
 use Rattle.ses_step.specs.declared.command.Asked.{Asked}
 use Rattle.ses_step.specs.declared.command.Asked.TheVariants as asks
 use Rattle.ses_step.specs.declared.session.Known.{Known}
@@ -29,7 +25,7 @@ use Rattle.ses_step.specs.declared.session.Session.{Session}
 use Rattle.ses_step.specs.declared.line.LineForm.TheVariants.{Definition}
 use Rattle.ses_step.specs.Lines.{opens_block, is_end, line_form}
 use Rattle.ses_step.specs.SessionLines.{asked, begun_as}
-use Rattle.ses_step.specs.Sessions.{Sees, new_session, resting, kept_waiting, name_at, located, is_single_at, cell_in, with_cell}
+use Rattle.ses_step.specs.Sessions.{Sees, new_session, resting, name_at}
 use Rattle.script_world.specs.Outcomes.{Outcome, done, Attempt, as_done, all_attempts, attempts_of}
 use Rattle.script_world.specs.Meaning.{Form, nothing, malformed, joins, ends}
 use Rattle.script_world.specs.Worlds.{Answered, answered_so, no_session, silent, defined, defined_so, block_ended, answers, with_session, closed, shared_of, commanded, crowded_out, settled, block_ends, script_ends}
@@ -53,30 +49,15 @@ use Rattle.script_play.proofs.LineSteps.{moves-nothing, moves-then}
 
 -- ---- the first line of a session that isn't attached makes no attempt
 
--- an object that it names is refused
-located-none : (definitions : List Def) (who : ℕ) (name : List ℕ) → (refusal : Refusal) × (located definitions (new_session who) name ≡ Err refusal)
-located-none definitions who name = by_place (object_of definitions name)
-  where
-    by_place : (place : Option ℕ) → let found : Result ℕ Refusal = elim place [ None ↦ Err no_form | Some object ↦ Err not_attached ] in (refusal : Refusal) × (found ≡ Err refusal)
-    by_place None = (no_form, refl)
-    by_place (Some object) = (not_attached, refl)
-
 module _ (next : ℕ → Outcome) (definitions : List Def) (names : List (List ℕ)) (disk : ObjectsDisk) (who : ℕ) where
   abbrev first_attempts : Begun × Session → List (Attempt Decoded)
   first_attempts b = attempts_of (Some (turn_from (machine next) definitions names disk b).shared)
 
-  abbrev attempts_by : Command → Begun × Known → List (Attempt Decoded)
-  attempts_by own b = first_attempts (kept_waiting own b)
-
-  abbrev single : Result ℕ Refusal → Result ℕ Refusal
-  single found = elim found [ Err refusal ↦ Err refusal | Ok object ↦ cond (is_single_at definitions object) (Ok object) (Err no_form) ]
-
   first-turn : (own : Command) → attempts_of (Some (turn (machine next) definitions names disk (new_session who) own).shared) ≡ attempts_of (Some disk)
   first-turn (command.Attach mode) = refl
-  first-turn (command.Assign name value) =
-      ap (λ found. attempts_by (command.Assign name value) (elim (single found) [ Err refusal ↦ (Said (Refused refusal), new_session who) | Ok object ↦ (Said Done, with_cell (new_session who) object (Int value)) ])) (located-none definitions who name).1
-  first-turn (command.Show name) =
-      ap (λ found. attempts_by (command.Show name) (elim (single found) [ Err refusal ↦ (Said (Refused refusal), new_session who) | Ok object ↦ (Said (Shown (cell_in (new_session who) object)), new_session who) ])) (located-none definitions who name).1
+  first-turn (command.Write object cells) = refl
+  first-turn (command.Maintain object values) = refl
+  first-turn (command.Show cell) = refl
   first-turn command.Detach = refl
   first-turn (command.Acquire keep fresh same) = refl
   first-turn (command.Resync objects) = refl

@@ -1,4 +1,6 @@
-use Rattle.script_meaning.proofs.SnapshotReads.{attach_gives_latest, own_commands_move, shows_what_is_read}
+use Rattle.script_meaning.proofs.LineAnswers.{shows_what_is_read}
+use Rattle.script_meaning.proofs.ShownSingles.{singles_shown, integers_assigned}
+use Rattle.script_meaning.proofs.SnapshotReads.{attach_gives_latest, own_commands_move}
 use Rattle.script_meaning.proofs.SnapshotReadsOfRuns.{sees_its_own, keeps_owned}
 use Rattle.script_meaning.proofs.laws.sessions_read_their_own.Goals as goal
 
@@ -10,6 +12,12 @@ returns-clause-moved c = own_commands_move
 
 pub returns-clause-shown : goal.returns-clause-shown
 returns-clause-shown c = shows_what_is_read
+
+pub returns-clause-named : goal.returns-clause-named
+returns-clause-named c = singles_shown
+
+pub returns-clause-integer : goal.returns-clause-integer
+returns-clause-integer c = integers_assigned
 
 pub returns-clause-since : goal.returns-clause-since
 returns-clause-since c names records coming events can = sees_its_own names records coming can events
