@@ -37,8 +37,15 @@ A refused line is answered by ERROR, a number and its detail:
       name a value that it has
    7  the name is defined already, or comes twice
       choose another name, or write it once
-  14  more than 4,096 objects, 6 dimensions or 67,108,864 bytes of a commit's record; too long a formula
-      define fewer, or update and commit fewer objects at once
+   8  SHOW over a dimension that has no values
+      give it values, or fix one
+   9  a number is out of the range of its type
+      compute with smaller values
+  10  a division by zero
+      ask for the divisor by IF
+  14  more than 4,096 objects, 6 dimensions, 4,194,304 cells or 67,108,864 bytes of a commit's record;
+      too long an expression
+      define, assign, or update and commit less at once
   15  the session isn't attached
       begin with AW ATTACH
   16  the session is attached already
@@ -53,8 +60,8 @@ A refused line is answered by ERROR, a number and its detail:
       COMMIT and RELEASE it first
   21  the definitions are written, and stay as they are
       define all objects before the first session line, on a new workspace
-  22  the object has the last generation number that there is
-      define another object on a new workspace
+  22  the object has cells on 65,536 pages, 65,536 slots or the last generation number that there is
+      assign fewer cells, or define another object on a new workspace
   23  the session attached with RO, and only reads
       AW DETACH, and AW ATTACH MULTI
   24  a line of a program begins with a word of session lines
