@@ -1,3 +1,4 @@
+pub mod CallerLemmas
 pub mod Steps
 pub mod Loops
 pub mod OneChild
